@@ -6,7 +6,6 @@ use pict_load::load_text;
 use pict_lower::lower;
 use pict_syntax::Names;
 use std::alloc::{AllocError, Global};
-use std::test::Fail;
 
 /// How many nodes a code has, how many levels its frames have together, and the longest of them.
 fn measured(code: &Code) -> (u64, u64, u64) {
@@ -22,7 +21,7 @@ fn measured(code: &Code) -> (u64, u64, u64) {
     (nodes, levels, longest)
 }
 
-fn measures(alloc: Global, text: &[u8], wanted: (u64, u64, u64)) -> Result<bool, Fail> {
+fn measures(alloc: Global, text: &[u8], wanted: (u64, u64, u64)) -> Result<bool, AllocError> {
     let mut names = Names::new(alloc);
     match derived(alloc, &mut names, text) {
         Some(Ok(core)) => Ok(measured(&lower(alloc, &core)?) == wanted),
@@ -41,20 +40,25 @@ fn many_names(alloc: Global) -> Result<String, AllocError> {
     format!(in alloc; "new c:Top run c?[{names}] = ({parts}print![c{names}])")
 }
 
-// The reader and what stands beside it have one level, and each of the 200 compositions and the output have 201.
-#[test]
-fn two_hundred_names_under_two_hundred_parts(rt: HostRuntime) -> Result<(), Fail> {
-    let text = many_names(rt.alloc())?;
-    assert!(rt; measures(rt.alloc(), text.as_bytes(), (405, 40403, 201))?);
-    Ok(())
+/// The reader and what stands beside it have one level, and each of the 200 compositions and the output have 201.
+fn are_two_hundred_names(alloc: Global) -> Result<bool, AllocError> {
+    let text = many_names(alloc)?;
+    measures(alloc, text.as_bytes(), (405, 40403, 201))
+}
+
+fn is_server_measured(alloc: Global) -> Result<bool, AllocError> {
+    let server = joined(alloc, &[PRELUDE, COUNTER])?;
+    measures(alloc, &server, (168, 550, 8))
+}
+
+fn are_rings_measured(alloc: Global) -> Result<bool, AllocError> {
+    measures(alloc, &load_text(alloc, 42)?, (6475, 85367, 183))
 }
 
 #[test]
-fn texts_have_codes_of_these_sizes(rt: HostRuntime) -> Result<(), Fail> {
-    let alloc = rt.alloc();
-    let server = joined(alloc, &[PRELUDE, COUNTER])?;
-    assert!(rt; measures(alloc, &server, (168, 550, 8))?);
-    let rings = load_text(alloc, 42)?;
-    assert!(rt; measures(alloc, &rings, (6475, 85367, 183))?);
+fn texts_have_codes_of_these_sizes(rt: HostRuntime) -> Result<(), AllocError> {
+    assert!(rt; are_two_hundred_names(rt.alloc())?);
+    assert!(rt; is_server_measured(rt.alloc())?);
+    assert!(rt; are_rings_measured(rt.alloc())?);
     Ok(())
 }

@@ -30,18 +30,22 @@ fn is_refused_at_its_end_alone(alloc: Global, text: &[u8]) -> bool {
     }
 }
 
-/// The counter server, cut after each of its tokens.
-#[test]
-fn the_counter_server_is_cut(rt: HostRuntime) {
-    let alloc = rt.alloc();
+/// Whether the counter server is refused at its end alone, cut after each of its tokens.
+fn is_cut(alloc: Global) -> bool {
     let mut names = Names::new(alloc);
-    match lex(alloc, &mut names, COUNTER, 1) {
-        Err(_) => assert!(rt; false),
-        Ok(tokens) => {
-            for token in &tokens {
-                let text = COUNTER.get(..token.span.end as usize).unwrap_or(b"@");
-                assert!(rt; is_refused_at_its_end_alone(alloc, text));
-            }
+    let Ok(tokens) = lex(alloc, &mut names, COUNTER, 1) else {
+        return false;
+    };
+    for token in &tokens {
+        let text = COUNTER.get(..token.span.end as usize).unwrap_or(b"@");
+        if !is_refused_at_its_end_alone(alloc, text) {
+            return false;
         }
     }
+    true
+}
+
+#[test]
+fn the_counter_server_is_cut(rt: HostRuntime) {
+    assert!(rt; is_cut(rt.alloc()));
 }

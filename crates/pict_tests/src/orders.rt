@@ -71,13 +71,25 @@ fn printings(alloc: Global) -> Result<Vec<u8>, AllocError> {
     Ok(text)
 }
 
+/// Whether the program prints with choices from this seed what the list says.
+fn prints_as_a_list(alloc: Global, text: &[u8], seed: u64) -> Result<bool, AllocError> {
+    match printed_by(alloc, text, seed)? {
+        Some(printed) => Ok(printed == printed_by_a_list(alloc, seed)?),
+        None => Ok(false),
+    }
+}
+
+fn are_a_thousand(alloc: Global) -> Result<bool, AllocError> {
+    let text = printings(alloc)?;
+    Ok(
+        prints_as_a_list(alloc, &text, 0)?
+            && prints_as_a_list(alloc, &text, 1)?
+            && prints_as_a_list(alloc, &text, 2)?,
+    )
+}
+
 #[test]
 fn a_thousand_beside_each_other(rt: HostRuntime) -> Result<(), AllocError> {
-    let text = printings(rt.alloc())?;
-    for seed in 0..3 {
-        let printed = printed_by(rt.alloc(), &text, seed)?;
-        let wanted = Some(printed_by_a_list(rt.alloc(), seed)?);
-        assert!(rt; printed == wanted);
-    }
+    assert!(rt; are_a_thousand(rt.alloc())?);
     Ok(())
 }

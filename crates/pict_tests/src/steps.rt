@@ -19,7 +19,6 @@ use pict_show_words::{printed, write_word};
 use pict_syntax::{FUEL_LIMIT, Names, Sources, Span};
 use pict_top::OneShelf;
 use std::alloc::{AllocError, Global};
-use std::process::Abort;
 
 // ---- accepted texts
 
@@ -131,13 +130,16 @@ impl Notes {
 
 // ---- the run by the machine, and by the definition
 
-/// The machine after the run of an accepted text with this fuel, how the run ended, and what it showed; nothing where the text
-/// is refused.
-fn machine_after(
-    alloc: Global,
-    text: &[u8],
-    fuel: u64,
-) -> Result<Option<(Machine, Stopped, Notes)>, AllocError>
+/// How a run ends, the lines that it shows, and how often words of blocks were touched until its end.
+#[derive(Drop)]
+struct Ran {
+    stopped: Stopped,
+    lines: Vec<u8>,
+    work: u64,
+}
+
+/// The run of an accepted text with this fuel; nothing where the text is refused.
+fn run_text(alloc: Global, text: &[u8], fuel: u64) -> Result<Option<Ran>, AllocError>
     requires { fuel ≤ FUEL_LIMIT }
 {
     let Some(core) = accepted(alloc, text) else {
@@ -146,19 +148,12 @@ fn machine_after(
     let mut machine = Machine::load_core(alloc, core)?;
     let mut notes = Notes::new(alloc);
     match machine.run_counted(fuel, &mut notes) {
-        Ok(stopped) => Ok(Some((machine, stopped, notes))),
+        Ok(stopped) => Ok(Some(Ran {
+            stopped,
+            lines: notes.text,
+            work: machine.queues().work(),
+        })),
         Err(_) => Ok(None),
-    }
-}
-
-/// How the run of an accepted text with this fuel ends, after how many steps, and the lines that it shows; nothing where
-/// the text is refused.
-fn ran(alloc: Global, text: &[u8], fuel: u64) -> Result<Option<(Stopped, Vec<u8>)>, AllocError>
-    requires { fuel ≤ FUEL_LIMIT }
-{
-    match machine_after(alloc, text, fuel)? {
-        Some((_, stopped, notes)) => Ok(Some((stopped, notes.text))),
-        None => Ok(None),
     }
 }
 
@@ -167,12 +162,58 @@ fn stopped(end: End, steps: u64) -> Stopped {
     Stopped { end, steps }
 }
 
-/// The outcome of the defined step; nothing where numbers run out.
-fn next(reference: &mut Reference) -> Result<Option<StepOutcome>, AllocError> {
-    if reference.has_room() {
-        Ok(Some(reference.next()?))
+/// What comes of a defined step.
+#[derive(Clone, Copy)]
+enum Next {
+    /// It is done.
+    Stepped,
+    /// The run ends.
+    Ended(End),
+    /// It is wrong, or numbers run out.
+    Wrong,
+}
+
+/// Does the defined step with this number, and notes what it shows.
+fn step(reference: &mut Reference, notes: &mut Notes, number: u64) -> Result<Next, AllocError> {
+    if !reference.has_room() {
+        return Ok(Next::Wrong);
+    }
+    match reference.next()? {
+        StepOutcome::Steps(label) => {
+            notes.label(number, &label)?;
+            Ok(Next::Stepped)
+        }
+        StepOutcome::Traps(at) => Ok(Next::Ended(End::Trap(at))),
+        StepOutcome::Finished => Ok(Next::Ended(End::Done)),
+        StepOutcome::Wrong => Ok(Next::Wrong),
+    }
+}
+
+/// Whether the defined step is none, as nothing is ready.
+fn is_finished(reference: &mut Reference) -> Result<bool, AllocError> {
+    Ok(reference.has_room() && matches!(reference.next()?, StepOutcome::Finished))
+}
+
+/// How the defined run of a process ends, and after how many steps, with what it shows in the notes; nothing where a step is wrong.
+fn defined_end(
+    reference: &mut Reference,
+    notes: &mut Notes,
+    fuel: u64,
+) -> Result<Option<Stopped>, AllocError>
+    requires { fuel ≤ FUEL_LIMIT }
+{
+    for done in 0..fuel {
+        match step(reference, notes, done + 1)? {
+            Next::Stepped => {}
+            Next::Ended(End::Done) => return Ok(Some(stopped(End::Done, done))),
+            Next::Ended(end) => return Ok(Some(stopped(end, done + 1))),
+            Next::Wrong => return Ok(None),
+        }
+    }
+    if is_finished(reference)? {
+        Ok(Some(stopped(End::Done, fuel)))
     } else {
-        Ok(None)
+        Ok(Some(stopped(End::FuelSpent, fuel)))
     }
 }
 
@@ -186,97 +227,70 @@ fn defined(alloc: Global, text: &[u8], fuel: u64) -> Result<Option<(Stopped, Vec
     };
     let mut reference = Reference::open(alloc, core)?;
     let mut notes = Notes::new(alloc);
-    for step in 0..fuel {
-        match next(&mut reference)? {
-            Some(StepOutcome::Steps(label)) => notes.label(step + 1, &label)?,
-            Some(StepOutcome::Traps(at)) => {
-                return Ok(Some((stopped(End::Trap(at), step + 1), notes.text)));
-            }
-            Some(StepOutcome::Finished) => {
-                return Ok(Some((stopped(End::Done, step), notes.text)));
-            }
-            Some(StepOutcome::Wrong) | None => return Ok(None),
-        }
-    }
-    match next(&mut reference)? {
-        Some(StepOutcome::Finished) => Ok(Some((stopped(End::Done, fuel), notes.text))),
-        _ => Ok(Some((stopped(End::FuelSpent, fuel), notes.text))),
+    match defined_end(&mut reference, &mut notes, fuel)? {
+        Some(end) => Ok(Some((end, notes.text))),
+        None => Ok(None),
     }
 }
 
-/// The run of the text with this fuel ends so after so many steps, and shows these lines.
-fn expect_end<R: Abort>(
-    rt: &R,
+/// Whether the run of the text with this fuel ends so after so many steps, and shows these lines.
+fn ends(
     alloc: Global,
     text: &[u8],
     fuel: u64,
     end: Stopped,
     lines: &[u8],
-) -> Result<(), AllocError>
+) -> Result<bool, AllocError>
     requires { fuel ≤ FUEL_LIMIT }
 {
-    match ran(alloc, text, fuel)? {
-        Some((found, shown)) => {
-            assert!(rt; found == end);
-            assert!(rt; shown.as_slice() == lines);
-        }
-        None => assert!(rt; false),
+    match run_text(alloc, text, fuel)? {
+        Some(ran) => Ok(ran.stopped == end && ran.lines.as_slice() == lines),
+        None => Ok(false),
     }
-    Ok(())
 }
 
-/// The machine's first hundred steps of the text are those of the definition.
-fn expect_same<R: Abort>(rt: &R, alloc: Global, text: &[u8]) -> Result<(), AllocError> {
-    match ran(alloc, text, 100)? {
-        None => assert!(rt; false),
-        Some((end, lines)) => match defined(alloc, text, 100)? {
-            None => assert!(rt; false),
-            Some((wanted, expected)) => {
-                assert!(rt; end == wanted);
-                assert!(rt; lines.as_slice() == expected.as_slice());
-            }
-        },
+/// Whether the machine's first hundred steps of the text are those of the definition.
+fn steps_as_defined(alloc: Global, text: &[u8]) -> Result<bool, AllocError> {
+    match defined(alloc, text, 100)? {
+        Some((end, lines)) => ends(alloc, text, 100, end, &lines),
+        None => Ok(false),
     }
-    Ok(())
 }
 
-/// The run of the text with this fuel ends so after so many steps, and shows these lines. Its first hundred steps are those
-/// of the definition.
-fn expect_run<R: Abort>(
-    rt: &R,
+/// Whether the run of the text with this fuel ends so after so many steps, and shows these lines, and its first hundred steps are
+/// those of the definition.
+fn runs(
     alloc: Global,
     text: &[u8],
     fuel: u64,
     end: Stopped,
     lines: &[u8],
-) -> Result<(), AllocError>
+) -> Result<bool, AllocError>
     requires { fuel ≤ FUEL_LIMIT }
 {
-    expect_same(rt, alloc, text)?;
-    expect_end(rt, alloc, text, fuel, end, lines)
+    Ok(steps_as_defined(alloc, text)? && ends(alloc, text, fuel, end, lines)?)
 }
 
-/// The run of the text takes so many steps until nothing is ready: one less is too little fuel, and one more changes
+/// Whether the run of the text spends this fuel.
+fn spends(alloc: Global, text: &[u8], fuel: u64) -> Result<bool, AllocError>
+    requires { fuel ≤ FUEL_LIMIT }
+{
+    match run_text(alloc, text, fuel)? {
+        Some(ran) => Ok(ran.stopped == stopped(End::FuelSpent, fuel)),
+        None => Ok(false),
+    }
+}
+
+/// Whether the run of the text takes so many steps until nothing is ready: one less is too little fuel, and one more changes
 /// nothing.
-fn expect_done<R: Abort>(
-    rt: &R,
-    alloc: Global,
-    text: &[u8],
-    steps: u64,
-    lines: &[u8],
-) -> Result<(), AllocError>
+fn takes(alloc: Global, text: &[u8], steps: u64, lines: &[u8]) -> Result<bool, AllocError>
     requires { steps < FUEL_LIMIT }
 {
     let done = stopped(End::Done, steps);
-    expect_run(rt, alloc, text, steps, done, lines)?;
-    expect_end(rt, alloc, text, steps + 1, done, lines)?;
-    if steps > 0 {
-        match ran(alloc, text, steps - 1)? {
-            Some((end, _)) => assert!(rt; end == stopped(End::FuelSpent, steps - 1)),
-            None => assert!(rt; false),
-        }
+    if steps > 0 && !spends(alloc, text, steps - 1)? {
+        return Ok(false);
     }
-    Ok(())
+    Ok(runs(alloc, text, steps, done, lines)? && ends(alloc, text, steps + 1, done, lines)?)
 }
 
 // ---- worked programs
@@ -355,52 +369,50 @@ const PROGRAMS: &str = r#"
 15 c2 3
 16 print 3"#;
 
-/// Tries a block of a table.
-fn try_block(rt: &impl Abort, alloc: Global, block: &str) -> Result<(), AllocError> {
+/// Whether the text of a block has this run.
+fn is_right(alloc: Global, block: &str) -> Result<bool, AllocError> {
     let (before, text, lines) = parts(block, " steps:");
-    let steps = before
-        .lines()
-        .last()
-        .unwrap_or("")
-        .parse::<u16>()
-        .unwrap_or(0);
+    let steps = before.lines().last().unwrap_or("");
+    let steps = steps.parse::<u16>().unwrap_or(0);
     let lines = ended(alloc, lines)?;
-    expect_done(rt, alloc, text.as_bytes(), steps as u64, lines.as_bytes())
+    takes(alloc, text.as_bytes(), steps as u64, lines.as_bytes())
 }
 
-/// Tries the blocks of a table.
-fn try_blocks(rt: &impl Abort, alloc: Global, table: &str) -> Result<(), AllocError> {
+/// The first block of a table whose text has another run.
+fn wrong_block(alloc: Global, table: &'static str) -> Result<Option<&'static str>, AllocError> {
     for block in table.split("\n\n") {
-        try_block(rt, alloc, block)?;
+        if !is_right(alloc, block)? {
+            return Ok(Some(block));
+        }
     }
-    Ok(())
+    Ok(None)
 }
 
 #[test]
 fn worked_programs(rt: HostRuntime) -> Result<(), AllocError> {
-    try_blocks(&rt, rt.alloc(), PROGRAMS)?;
-    try_blocks(&rt, rt.alloc(), PRIMITIVES)
+    if let Some(block) = wrong_block(rt.alloc(), PROGRAMS)? {
+        panic!(rt; "{block}");
+    }
+    if let Some(block) = wrong_block(rt.alloc(), PRIMITIVES)? {
+        panic!(rt; "{block}");
+    }
+    Ok(())
 }
 
-/// Tries a run that spends its fuel.
-fn try_spent(
-    rt: &impl Abort,
-    alloc: Global,
-    text: &[u8],
-    fuel: u64,
-    lines: &[u8],
-) -> Result<(), AllocError>
+/// Whether a run spends its fuel, and shows these lines.
+fn is_spent(alloc: Global, text: &[u8], fuel: u64, lines: &[u8]) -> Result<bool, AllocError>
     requires { fuel ≤ FUEL_LIMIT }
 {
-    expect_run(rt, alloc, text, fuel, stopped(End::FuelSpent, fuel), lines)
+    runs(alloc, text, fuel, stopped(End::FuelSpent, fuel), lines)
 }
 
-#[test]
-fn too_little_fuel(rt: HostRuntime) -> Result<(), AllocError> {
+fn is_too_little(alloc: Global) -> Result<bool, AllocError> {
     let hello = b"run print!\"hello\"";
-    try_spent(&rt, rt.alloc(), hello, 2, b"2 print hello\n")?;
-    try_spent(&rt, rt.alloc(), hello, 1, b"")?;
-    try_spent(&rt, rt.alloc(), hello, 0, b"")
+    Ok(
+        is_spent(alloc, hello, 2, b"2 print hello\n")?
+            && is_spent(alloc, hello, 1, b"")?
+            && is_spent(alloc, hello, 0, b"")?,
+    )
 }
 
 /// The lines of a loop that sends to itself: from the seventh step on each is a communication.
@@ -413,21 +425,20 @@ fn endless_lines(alloc: Global) -> Result<Vec<u8>, AllocError> {
     Ok(lines)
 }
 
-#[test]
-fn an_endless_loop_spends_its_fuel(rt: HostRuntime) -> Result<(), AllocError> {
-    let lines = endless_lines(rt.alloc())?;
-    try_spent(
-        &rt,
-        rt.alloc(),
-        b"def loop [] = loop![] run loop![]",
-        1000,
-        &lines,
-    )
+fn is_endless(alloc: Global) -> Result<bool, AllocError> {
+    let lines = endless_lines(alloc)?;
+    is_spent(alloc, b"def loop [] = loop![] run loop![]", 1000, &lines)
 }
 
 #[test]
-fn a_division_by_zero_traps(rt: HostRuntime) -> Result<(), AllocError> {
-    let alloc = rt.alloc();
+fn fuel_is_spent(rt: HostRuntime) -> Result<(), AllocError> {
+    assert!(rt; is_too_little(rt.alloc())?);
+    assert!(rt; is_endless(rt.alloc())?);
+    Ok(())
+}
+
+/// A division by zero traps.
+fn is_trapped(alloc: Global) -> Result<bool, AllocError> {
     let text = b"(pr \"a\"); run printi!(div 1 0)";
     let lines = b"4 print a\n5 c0 []\n";
     let at = Span {
@@ -435,8 +446,33 @@ fn a_division_by_zero_traps(rt: HostRuntime) -> Result<(), AllocError> {
         start: 21,
         end: 30,
     };
-    expect_run(&rt, alloc, text, 10, stopped(End::FuelSpent, 10), lines)?;
-    expect_run(&rt, alloc, text, 11, stopped(End::Trap(at), 11), lines)
+    Ok(
+        is_spent(alloc, text, 10, lines)?
+            && runs(alloc, text, 11, stopped(End::Trap(at), 11), lines)?,
+    )
+}
+
+/// The first step is the composition's.
+fn is_first_quiet(alloc: Global) -> Result<bool, AllocError> {
+    match accepted(alloc, b"run print!\"a\"") {
+        None => Ok(false),
+        Some(core) => {
+            let mut machine = Machine::load_core(alloc, core)?;
+            if machine.ready() {
+                let event = machine.step()?;
+                Ok(matches!(event, Event::Quiet))
+            } else {
+                Ok(false)
+            }
+        }
+    }
+}
+
+#[test]
+fn divisions_trap_and_compositions_are_quiet(rt: HostRuntime) -> Result<(), AllocError> {
+    assert!(rt; is_trapped(rt.alloc())?);
+    assert!(rt; is_first_quiet(rt.alloc())?);
+    Ok(())
 }
 
 /// So many pieces one after the other.
@@ -448,56 +484,41 @@ fn repeated(alloc: Global, piece: &[u8], count: usize) -> Result<Vec<u8>, AllocE
     Ok(text)
 }
 
-/// Tries the end of the run of so many pieces with this fuel.
-fn try_pieces(
-    rt: &impl Abort,
+/// Whether the run of so many pieces spends this fuel, and shows these lines.
+fn do_pieces_spend(
     alloc: Global,
     piece: &[u8],
     count: usize,
     fuel: u64,
-    end: End,
     lines: &[u8],
-) -> Result<(), AllocError>
+) -> Result<bool, AllocError>
     requires { fuel ≤ FUEL_LIMIT }
 {
     let text = repeated(alloc, piece, count)?;
-    expect_end(rt, alloc, &text, fuel, stopped(end, fuel), lines)
+    ends(alloc, &text, fuel, stopped(End::FuelSpent, fuel), lines)
 }
 
-// Processes of a depth of 5,000, or of 4,999, nested on the right, on the left and under channels. Each step of the last
-// two takes time in all that is left.
+/// Processes of a depth of 5,000, or of 4,999, nested on the right, on the left and under channels. Each step of the last
+/// two takes time in all that is left.
+fn do_deep_processes_run(alloc: Global) -> Result<bool, AllocError> {
+    let left = b"4 c0 []\n8 c1 []\n12 c2 []\n";
+    Ok(
+        do_pieces_spend(alloc, b"run ()\n", 4999, 9998, b"")?
+            && do_pieces_spend(alloc, b"[];", 1666, 14, left)?
+            && do_pieces_spend(alloc, b"new c:^[]\n", 4999, 50, b"")?,
+    )
+}
+
+/// The first hundred steps of the deepest process are those of the definition too.
+fn does_the_deepest_end(alloc: Global) -> Result<bool, AllocError> {
+    let right = repeated(alloc, b"run ()\n", 4999)?;
+    runs(alloc, &right, 9999, stopped(End::Done, 9999), b"")
+}
+
 #[test]
 fn deep_processes_run(rt: HostRuntime) -> Result<(), AllocError> {
-    let alloc = rt.alloc();
-    try_pieces(&rt, alloc, b"run ()\n", 4999, 9998, End::FuelSpent, b"")?;
-    let left = b"4 c0 []\n8 c1 []\n12 c2 []\n";
-    try_pieces(&rt, alloc, b"[];", 1666, 14, End::FuelSpent, left)?;
-    try_pieces(&rt, alloc, b"new c:^[]\n", 4999, 50, End::FuelSpent, b"")
-}
-
-// The first hundred steps of the deepest process are those of the definition too.
-#[test]
-fn the_deepest_process_ends(rt: HostRuntime) -> Result<(), AllocError> {
-    let right = repeated(rt.alloc(), b"run ()\n", 4999)?;
-    expect_run(&rt, rt.alloc(), &right, 9999, stopped(End::Done, 9999), b"")
-}
-
-// The first step is the composition's.
-#[test]
-fn one_step(rt: HostRuntime) -> Result<(), AllocError> {
-    let alloc = rt.alloc();
-    match accepted(alloc, b"run print!\"a\"") {
-        None => assert!(rt; false),
-        Some(core) => {
-            let mut machine = Machine::load_core(alloc, core)?;
-            let ready = machine.ready();
-            assert!(rt; ready);
-            if ready {
-                let event = machine.step()?;
-                assert!(rt; matches!(event, Event::Quiet));
-            }
-        }
-    }
+    assert!(rt; do_deep_processes_run(rt.alloc())?);
+    assert!(rt; does_the_deepest_end(rt.alloc())?);
     Ok(())
 }
 
@@ -505,40 +526,43 @@ fn one_step(rt: HostRuntime) -> Result<(), AllocError> {
 fn work_after(alloc: Global, text: &[u8], fuel: u64) -> Result<Option<u64>, AllocError>
     requires { fuel ≤ FUEL_LIMIT }
 {
-    match machine_after(alloc, text, fuel)? {
-        Some((machine, _, _)) => Ok(Some(machine.queues().work())),
+    match run_text(alloc, text, fuel)? {
+        Some(ran) => Ok(Some(ran.work)),
         None => Ok(None),
     }
 }
 
-/// Tries what the run of a text touches that is longer by one step.
-fn try_cost(
-    rt: &impl Abort,
-    alloc: Global,
-    text: &[u8],
-    steps: u64,
-    cost: u64,
-) -> Result<(), AllocError>
+/// Whether the run of a text that is longer by one step touches more, and no more than this.
+fn costs(alloc: Global, text: &[u8], steps: u64, cost: u64) -> Result<bool, AllocError>
     requires { steps < FUEL_LIMIT }
 {
-    let before = work_after(alloc, text, steps)?;
-    let after = work_after(alloc, text, steps + 1)?;
-    match (before, after) {
-        (Some(before), Some(after)) => assert!(rt; before < after && after - before <= cost),
-        _ => assert!(rt; false),
+    match (
+        work_after(alloc, text, steps)?,
+        work_after(alloc, text, steps + 1)?,
+    ) {
+        (Some(before), Some(after)) => Ok(before < after && after - before <= cost),
+        _ => Ok(false),
     }
-    Ok(())
 }
 
-// A run that is one step longer touches at most 64 times as many words more as the last step's instruction and its partner's
-// are large: 2, 4, 4, 3, 5 and 4, 1, and 4. What the shorter run touches as it sets down who has the turn is subtracted. The
-// size of an instruction is 1, the levels in its frame and in those of its parts, and the nodes of its operands and patterns.
+/// 64 times as many words as the instruction of each step and its partner's are large: 2, 4, 4, 3, 5 and 4, 1, and 4.
+const COSTS: [u64; 7] = [128, 256, 256, 192, 576, 64, 256];
+
+/// A run that is one step longer touches at most 64 times as many words more as the last step's instruction and its partner's
+/// are large. What the shorter run touches as it sets down who has the turn is subtracted. The size of an instruction is 1, the
+/// levels in its frame and in those of its parts, and the nodes of its operands and patterns.
+fn are_within_costs(alloc: Global) -> Result<bool, AllocError> {
+    let text = b"new c:^Int run c!1 run c?n = printi!n";
+    for steps in 0..7 {
+        if !costs(alloc, text, steps as u64, COSTS[steps])? {
+            return Ok(false);
+        }
+    }
+    Ok(true)
+}
+
 #[test]
 fn steps_work_within_their_costs(rt: HostRuntime) -> Result<(), AllocError> {
-    let text = b"new c:^Int run c!1 run c?n = printi!n";
-    let costs = [128, 256, 256, 192, 576, 64, 256];
-    for steps in 0..7 {
-        try_cost(&rt, rt.alloc(), text, steps as u64, costs[steps])?;
-    }
+    assert!(rt; are_within_costs(rt.alloc())?);
     Ok(())
 }

@@ -8,8 +8,6 @@ use pict_parse::parse;
 use pict_scope::resolve;
 use pict_syntax::{Name, Names, Prim};
 use std::alloc::{AllocError, Global};
-use std::process::Abort;
-use std::test::Fail;
 
 // ---- core processes as text: `vN` is the variable of level N, `^p` a new channel around p, `x` a variable of a pattern
 
@@ -275,32 +273,23 @@ text: (pr "a"); run print!"b"
 text: run if true then printi!1 else ()
 (if true printi!1 0|0)"#;
 
-/// Tries the core process of a text.
-fn expect_process(
-    rt: &impl Abort,
-    alloc: Global,
-    text: &[u8],
-    wanted: &[u8],
-) -> Result<(), AllocError> {
+/// Whether a text has this core process.
+fn has_process(alloc: Global, text: &[u8], wanted: &[u8]) -> Result<bool, AllocError> {
     match written(alloc, text)? {
-        Some(core) => assert!(rt; core.as_slice() == wanted),
-        None => panic!(rt; "the text is refused"),
+        Some(core) => Ok(core.as_slice() == wanted),
+        None => Ok(false),
     }
-    Ok(())
 }
 
-/// Tries a block of the table.
-fn try_block(rt: &impl Abort, alloc: Global, block: &str) -> Result<(), AllocError> {
-    let (_, text, wanted) = parts(block, "text:");
-    expect_process(rt, alloc, text.as_bytes(), wanted.as_bytes())
-}
-
-#[test]
-fn texts_have_these_processes(rt: HostRuntime) -> Result<(), AllocError> {
+/// The first block of the table whose text has another core process.
+fn wrong_block(alloc: Global) -> Result<Option<&'static str>, AllocError> {
     for block in PROCESSES.split("\n\n") {
-        try_block(&rt, rt.alloc(), block)?;
+        let (_, text, wanted) = parts(block, "text:");
+        if !has_process(alloc, text.as_bytes(), wanted.as_bytes())? {
+            return Ok(Some(block));
+        }
     }
-    Ok(())
+    Ok(None)
 }
 
 // ---- the counter server, with the prelude before it
@@ -376,12 +365,20 @@ pub fn joined(alloc: Global, texts: &[&[u8]]) -> Result<Vec<u8>, AllocError> {
     Ok(whole)
 }
 
-#[test]
-fn the_counter_server_has_this_process(rt: HostRuntime) -> Result<(), AllocError> {
-    let alloc = rt.alloc();
+/// The counter server.
+fn is_server_translated(alloc: Global) -> Result<bool, AllocError> {
     let text = joined(alloc, &[PRELUDE, COUNTER])?;
     let wanted = joined(alloc, &COUNTER_CORE)?;
-    expect_process(&rt, alloc, &text, &wanted)
+    has_process(alloc, &text, &wanted)
+}
+
+#[test]
+fn texts_have_these_processes(rt: HostRuntime) -> Result<(), AllocError> {
+    if let Some(block) = wrong_block(rt.alloc())? {
+        panic!(rt; "{block}");
+    }
+    assert!(rt; is_server_translated(rt.alloc())?);
+    Ok(())
 }
 
 // ---- the places of outputs
@@ -437,22 +434,31 @@ const PLACES: &str = r#"
 40-47 19-26 | new c:^Top val x = (rec c) val y = (rec (+ 1 2))
 "#;
 
-/// Tries a row of the table.
-fn try_places(rt: &impl Abort, alloc: Global, row: &str) -> Result<(), AllocError> {
-    let (wanted, text) = row.split_once("| ").unwrap_or((row, ""));
+/// Whether the outputs of a text have these places.
+fn has_places(alloc: Global, text: &str, wanted: &str) -> Result<bool, AllocError> {
     match places(alloc, text)? {
-        Some(found) => assert!(rt; found.as_slice() == wanted.as_bytes(), "{text}"),
-        None => panic!(rt; "{text} is refused"),
+        Some(found) => Ok(found.as_slice() == wanted.as_bytes()),
+        None => Ok(false),
     }
-    Ok(())
+}
+
+/// The first row of the table whose outputs have other places.
+fn wrong_row(alloc: Global) -> Result<Option<&'static str>, AllocError> {
+    for row in PLACES.lines() {
+        if !row.is_empty() && !row.starts_with("--") {
+            let (wanted, text) = row.split_once("| ").unwrap_or((row, ""));
+            if !has_places(alloc, text, wanted)? {
+                return Ok(Some(row));
+            }
+        }
+    }
+    Ok(None)
 }
 
 #[test]
 fn outputs_have_these_places(rt: HostRuntime) -> Result<(), AllocError> {
-    for row in PLACES.lines() {
-        if !row.is_empty() && !row.starts_with("--") {
-            try_places(&rt, rt.alloc(), row)?;
-        }
+    if let Some(row) = wrong_row(rt.alloc())? {
+        panic!(rt; "{row}");
     }
     Ok(())
 }
@@ -468,15 +474,27 @@ fn awaits(alloc: Global, count: usize) -> Result<Vec<u8>, AllocError> {
     Ok(text)
 }
 
-#[test]
-fn the_greatest_depth_is_built(rt: HostRuntime) -> Result<(), Fail> {
-    let alloc = rt.alloc();
+/// How deep the core process is of so many, where it is too deep; nothing where it is built, or the text is refused before.
+fn too_deep(alloc: Global, count: usize) -> Result<Option<u64>, AllocError> {
     let mut names = Names::new(alloc);
-    let most = awaits(alloc, 1666)?;
-    let built = derived(alloc, &mut names, &most);
-    assert!(rt; matches!(built, Some(Ok(_))));
-    let more = awaits(alloc, 1667)?;
-    let refused = derived(alloc, &mut names, &more);
-    assert!(rt; matches!(refused, Some(Err(DeriveError::TooDeep(5002)))));
+    match derived(alloc, &mut names, &awaits(alloc, count)?) {
+        Some(Err(DeriveError::TooDeep(depth))) => Ok(Some(depth)),
+        _ => Ok(None),
+    }
+}
+
+/// Whether the core process of so many is built.
+fn is_built(alloc: Global, count: usize) -> Result<bool, AllocError> {
+    let mut names = Names::new(alloc);
+    Ok(matches!(
+        derived(alloc, &mut names, &awaits(alloc, count)?),
+        Some(Ok(_))
+    ))
+}
+
+#[test]
+fn the_greatest_depth_is_built(rt: HostRuntime) -> Result<(), AllocError> {
+    assert!(rt; is_built(rt.alloc(), 1666)?);
+    assert!(rt; too_deep(rt.alloc(), 1667)? == Some(5002));
     Ok(())
 }

@@ -9,7 +9,6 @@ use pict_parse::{ParseError, parse};
 use pict_scope::{ScopeError, resolve};
 use pict_syntax::{Code, Names, Span, TEXT_LIMIT};
 use std::alloc::{AllocError, Global};
-use std::process::Abort;
 
 /// How far a text is read.
 #[derive(Clone, Copy, PartialEq, Eq)]
@@ -88,23 +87,44 @@ pub fn text_of(alloc: Global, row: &str) -> Result<Vec<u8>, AllocError> {
     Ok(text)
 }
 
-/// Tries the rows of a table.
-pub fn try_table(
-    rt: &impl Abort,
+/// What is wanted in a row, and its text.
+pub fn parts(row: &str) -> (&str, &str) {
+    row.split_once(" | ").unwrap_or((row, ""))
+}
+
+/// Whether a line of a table is a row.
+pub fn is_row(line: &str) -> bool {
+    !line.is_empty() && !line.starts_with("--")
+}
+
+/// Tells of a row where something else is found than is wanted there.
+pub fn compare(
     alloc: Global,
-    table: &str,
-    phase: Phase,
+    row: &str,
+    wanted: &str,
+    found: &str,
+    wrong: &mut String,
 ) -> Result<(), AllocError> {
-    for row in table.lines() {
-        if !row.is_empty() && !row.starts_with("--") {
-            match row.split_once(" | ") {
-                None => panic!(rt; "no row: {row}"),
-                Some((wanted, text)) => {
-                    let found = answer(alloc, &text_of(alloc, text)?, phase)?;
-                    assert!(rt; found.as_str() == wanted, "{row}: {found}");
-                }
-            }
-        }
+    if found != wanted {
+        wrong.push_str(format!(in alloc; "{row}: {found}\n")?.as_str())?;
     }
     Ok(())
+}
+
+/// Tries a row of a table.
+fn try_row(alloc: Global, row: &str, phase: Phase, wrong: &mut String) -> Result<(), AllocError> {
+    let (wanted, text) = parts(row);
+    let found = answer(alloc, &text_of(alloc, text)?, phase)?;
+    compare(alloc, row, wanted, found.as_str(), wrong)
+}
+
+/// The rows of a table whose answers are others, each with its answer.
+pub fn wrong_rows(alloc: Global, table: &str, phase: Phase) -> Result<String, AllocError> {
+    let mut wrong = String::new(alloc);
+    for row in table.lines() {
+        if is_row(row) {
+            try_row(alloc, row, phase, &mut wrong)?;
+        }
+    }
+    Ok(wrong)
 }

@@ -5,12 +5,11 @@
 // refusal, the name of the text in which it stands, and its place: the first byte and the one after the last. A line that
 // begins with `--` says what the rows below it are for.
 
-use crate::answers::text_of;
+use crate::answers::{compare, is_row, parts, text_of};
 use pict_gather::{GatherError, Gathering, gather};
 use pict_outside::{Entry, MemoryShelf};
 use pict_syntax::{Bytes, Sources, Span, TEXT_LIMIT};
 use std::alloc::{AllocError, Global};
-use std::process::Abort;
 
 const TEXTS: &str = r#"
 Ok 2: L F | F = import "L" run printi!(twice 4) | L = def twice (n:Int):Int = (+ n n)
@@ -107,36 +106,40 @@ fn entry_of(alloc: Global, name: &[u8], text: &[u8]) -> Result<Entry, AllocError
     Ok(Entry { name, text })
 }
 
-/// Tries a row of the table.
-fn try_row(rt: &impl Abort, alloc: Global, wanted: &str, texts: &str) -> Result<(), AllocError> {
-    let Some((file, _)) = texts.split_once(" = ") else {
-        panic!(rt; "no file: {texts}");
-    };
+/// What the texts of a row come to.
+fn found_of(alloc: Global, texts: &str) -> Result<String, AllocError> {
+    let (file, _) = texts.split_once(" = ").unwrap_or((texts, ""));
     let mut entries = Vec::new(alloc);
     for text in texts.split(" | ") {
-        match text.split_once(" = ") {
-            None => panic!(rt; "no text: {text}"),
-            Some((name, text)) => {
-                entries.push(entry_of(alloc, name.as_bytes(), text.as_bytes())?)?;
-            }
-        }
+        let (name, text) = text.split_once(" = ").unwrap_or((text, ""));
+        entries.push(entry_of(alloc, name.as_bytes(), text.as_bytes())?)?;
     }
     let mut shelf = MemoryShelf::new(entries, Vec::new(alloc));
-    let found = answer(alloc, b"", file, &mut shelf)?;
-    assert!(rt; found.as_str() == wanted, "{texts}: {found}");
-    Ok(())
+    answer(alloc, b"", file, &mut shelf)
+}
+
+/// The rows of the table that come to something else.
+fn wrong_rows(alloc: Global) -> Result<String, AllocError> {
+    let mut wrong = String::new(alloc);
+    for row in TEXTS.lines() {
+        if is_row(row) {
+            let (wanted, texts) = parts(row);
+            compare(
+                alloc,
+                row,
+                wanted,
+                found_of(alloc, texts)?.as_str(),
+                &mut wrong,
+            )?;
+        }
+    }
+    Ok(wrong)
 }
 
 #[test]
 fn imports(rt: HostRuntime) -> Result<(), AllocError> {
-    for row in TEXTS.lines() {
-        if !row.is_empty() && !row.starts_with("--") {
-            match row.split_once(" | ") {
-                None => panic!(rt; "no row: {row}"),
-                Some((wanted, texts)) => try_row(&rt, rt.alloc(), wanted, texts)?,
-            }
-        }
-    }
+    let wrong = wrong_rows(rt.alloc())?;
+    assert!(rt; wrong.is_empty(), "{wrong}");
     Ok(())
 }
 
@@ -153,12 +156,9 @@ fn alone(alloc: Global, text: &[u8]) -> Result<String, AllocError> {
 }
 
 /// The nesting of a text is looked at before its imports.
-#[test]
-fn nesting_before_imports(rt: HostRuntime) -> Result<(), AllocError> {
-    let text = text_of(rt.alloc(), "import \"\" run «( 201»")?;
-    let found = alone(rt.alloc(), &text)?;
-    assert!(rt; found.as_str() == "P2 F 214..215", "{found}");
-    Ok(())
+fn is_nesting_first(alloc: Global) -> Result<bool, AllocError> {
+    let text = text_of(alloc, "import \"\" run «( 201»")?;
+    Ok(alone(alloc, &text)?.as_str() == "P2 F 214..215")
 }
 
 /// The text of this number in a chain of so many, each of which imports the next, and the last one no text.
@@ -188,14 +188,18 @@ fn chain(alloc: Global, count: u32, there: u32) -> Result<String, AllocError> {
 }
 
 /// A chain of 64 texts is gathered. In one of 65 the last is one too many, also where it isn't there.
+fn are_long_chains_refused(alloc: Global) -> Result<bool, AllocError> {
+    Ok(
+        chain(alloc, 64, 64)?.starts_with("Ok 64: 64 63 62 ")
+            && chain(alloc, 65, 65)?.as_str() == "I3 64 7..11"
+            && chain(alloc, 65, 64)?.as_str() == "I3 64 7..11",
+    )
+}
+
 #[test]
-fn long_chains(rt: HostRuntime) -> Result<(), AllocError> {
-    let found = chain(rt.alloc(), 64, 64)?;
-    assert!(rt; found.starts_with("Ok 64: 64 63 62 "), "{found}");
-    for there in [65, 64] {
-        let found = chain(rt.alloc(), 65, there)?;
-        assert!(rt; found.as_str() == "I3 64 7..11", "{found}");
-    }
+fn nesting_and_long_chains(rt: HostRuntime) -> Result<(), AllocError> {
+    assert!(rt; is_nesting_first(rt.alloc())?);
+    assert!(rt; are_long_chains_refused(rt.alloc())?);
     Ok(())
 }
 
@@ -210,42 +214,31 @@ fn blank(alloc: Global, name: &[u8], front: &[u8], length: usize) -> Result<Entr
     Ok(Entry { name, text })
 }
 
-/// What `F`, which imports `L` and then `M`, comes to, by the lengths of the three.
-fn by_lengths(
+/// Whether `F`, which imports `L` and then `M`, comes to this, by the lengths of the three.
+fn has(
     alloc: Global,
     file: usize,
     first: usize,
     second: usize,
-) -> Result<String, AllocError> {
+    wanted: &str,
+) -> Result<bool, AllocError> {
     let mut entries = Vec::new(alloc);
     entries.push(blank(alloc, b"F", b"import \"L\" import \"M\"", file)?)?;
     entries.push(blank(alloc, b"L", b"", first)?)?;
     entries.push(blank(alloc, b"M", b"", second)?)?;
-    answer(
-        alloc,
-        b"run ()",
-        "F",
-        &mut MemoryShelf::new(entries, Vec::new(alloc)),
-    )
+    let mut shelf = MemoryShelf::new(entries, Vec::new(alloc));
+    Ok(answer(alloc, b"run ()", "F", &mut shelf)?.as_str() == wanted)
 }
 
 /// The bytes of a file and of the texts that it reaches are counted together, those of the prelude aren't, and the refusal
 /// stands at the text that is one too many bytes long. An empty text has room where none is left.
 #[test]
 fn bytes_together(rt: HostRuntime) -> Result<(), AllocError> {
-    let rows = [
-        (524_288, 524_288, 0, "Ok 1: L M F"),
-        (524_288, 524_289, 0, "B1 L 0..0"),
-        (524_288, 524_288, 1, "B1 M 0..0"),
-        (1_048_577, 0, 0, "B1 F 0..0"),
-    ];
-    for (file, first, second, wanted) in rows {
-        let found = by_lengths(rt.alloc(), file, first, second)?;
-        assert!(rt;
-            found.as_str() == wanted,
-            "{file} {first} {second}: {found}"
-        );
-    }
+    let alloc = rt.alloc();
+    assert!(rt; has(alloc, 524_288, 524_288, 0, "Ok 1: L M F")?);
+    assert!(rt; has(alloc, 524_288, 524_289, 0, "B1 L 0..0")?);
+    assert!(rt; has(alloc, 524_288, 524_288, 1, "B1 M 0..0")?);
+    assert!(rt; has(alloc, 1_048_577, 0, 0, "B1 F 0..0")?);
     Ok(())
 }
 
@@ -259,27 +252,43 @@ fn over_three(alloc: Global, fails: u64, prelude: &str, file: &str) -> Result<St
     answer(alloc, prelude.as_bytes(), file, &mut shelf)
 }
 
-/// A shelf that fails, at the file and at an import; a file that isn't there; and a prelude: it is read behind the fetch of
-/// the file and before its visit, and its imports are passed over.
+/// Rows `ANSWER | CALL | FILE | PRELUDE`: what the file comes to behind the prelude where this call of the shelf fails, none where it is 0.
+const SHELVES: &str = r#"
+-- a shelf that fails, at the file and at an import
+Failed F | 1 | F |
+Failed L | 2 | F |
+Ok 2: L F | 3 | F |
+-- a file that isn't there
+Missing | 0 | G |
+-- the prelude is read behind the fetch of the file and before its visit, and its imports are passed over
+Failed F | 1 | F | run print!
+Missing | 0 | G | run print!
+P1 prelude 10..10 | 0 | B | run print!
+Ok 4: L F | 0 | F | import "" run () run ()
+L1 B 0..1 | 0 | B | import "L" run ()
+"#;
+
+/// A column of a row.
+fn column(row: &str, place: usize) -> &str {
+    row.split('|').nth(place).unwrap_or("").trim()
+}
+
+/// The rows of the table that come to something else.
+fn wrong_shelves(alloc: Global) -> Result<String, AllocError> {
+    let mut wrong = String::new(alloc);
+    for row in SHELVES.lines() {
+        if is_row(row) {
+            let fails = column(row, 1).parse().unwrap_or(0);
+            let found = over_three(alloc, fails, column(row, 3), column(row, 2))?;
+            compare(alloc, row, column(row, 0), found.as_str(), &mut wrong)?;
+        }
+    }
+    Ok(wrong)
+}
+
 #[test]
 fn shelves_and_preludes(rt: HostRuntime) -> Result<(), AllocError> {
-    let rows = [
-        (1, "", "F", "Failed F"),
-        (2, "", "F", "Failed L"),
-        (3, "", "F", "Ok 2: L F"),
-        (0, "", "G", "Missing"),
-        (1, "run print!", "F", "Failed F"),
-        (0, "run print!", "G", "Missing"),
-        (0, "run print!", "B", "P1 prelude 10..10"),
-        (0, "import \"\" run () run ()", "F", "Ok 4: L F"),
-        (0, "import \"L\" run ()", "B", "L1 B 0..1"),
-    ];
-    for (fails, prelude, file, wanted) in rows {
-        let found = over_three(rt.alloc(), fails, prelude, file)?;
-        assert!(rt;
-            found.as_str() == wanted,
-            "{fails} {prelude} {file}: {found}"
-        );
-    }
+    let wrong = wrong_shelves(rt.alloc())?;
+    assert!(rt; wrong.is_empty(), "{wrong}");
     Ok(())
 }

@@ -1,13 +1,13 @@
 // The parser on texts: what is a program, where each phrase stands, and where a text is refused.
 
-use crate::answers::{Phase, answer, try_table};
+use crate::answers::{Phase, answer, compare, is_row, parts, wrong_rows};
 use pict_lex::lex;
 use pict_parse::{ParseError, parse};
 use pict_syntax::{
-    Dec, Names, Program, Span, TEXT_LIMIT, abs_span, pat_span, proc_span, type_span, val_span,
+    Dec, Import, Names, Program, Span, TEXT_LIMIT, abs_span, pat_span, proc_span, type_span,
+    val_span,
 };
 use std::alloc::{AllocError, Global};
-use std::process::Abort;
 
 fn read(alloc: Global, text: &[u8]) -> Option<Result<Program, ParseError>> {
     if text.len() as u64 > TEXT_LIMIT {
@@ -20,8 +20,9 @@ fn read(alloc: Global, text: &[u8]) -> Option<Result<Program, ParseError>> {
     }
 }
 
-/// Programs of each form, and then each repetition of the grammar with at least three items.
+/// Texts, and whether they are programs.
 const PROGRAMS: &str = r#"
+-- Programs of each form, and then each repetition of the grammar with at least three items.
 Ok | run print!"hello"
 Ok | new c:^Int run c!1 run c?n = printi!n
 Ok | def loop [] = loop![] run loop![]
@@ -74,10 +75,8 @@ Ok | (+ > a b c d);
 Ok | (f < a b c d);
 -- processes of a group
 Ok | run (() | () | () | ())
-"#;
 
-/// The first wrong token, or the end where each token may stand.
-const WRONG_TOKENS: &str = r#"
+-- The first wrong token, or the end where each token may stand.
 P1 10..11 | run (a!b |)
 P1 10..10 | run print!
 P1 6..6 | [a = b
@@ -103,10 +102,8 @@ P1 7..8 | type (F) =
 P1 9..10 | new c:[x : Int
 P1 9..10 | val x = [_];
 P1 9..10 | \(x):Int y
-"#;
 
-/// Kinds of operators, with marks at their arguments.
-const KINDS: &str = r#"
+-- Kinds of operators, with marks at their arguments.
 Ok | def g [#F:(+Type->Type)] = ()
 Ok | def g [#F:(-Type -> Type)] = ()
 Ok | def g [#F:( + Type Type - Type -> Type )] = ()
@@ -123,10 +120,8 @@ P1 11..13 | def g [#F:(+$Type -> Type)] = ()
 P1 11..13 | def g [#F:(-1 -> Type)] = ()
 -- some argument is there
 P1 11..13 | def g [#F:(-> Type)] = ()
-"#;
 
-/// Imports, which stand before all declarations.
-const IMPORTS: &str = r#"
+-- Imports, which stand before all declarations.
 Ok | import "L" run ()
 Ok | import "a/b.pi" import ""
 P1 6..6 | import
@@ -139,29 +134,63 @@ P1 14..14 | import "L" "M"
 #[test]
 fn programs(rt: HostRuntime) -> Result<(), AllocError> {
     assert!(rt; answer(rt.alloc(), b"", Phase::Grammar)?.as_str() == "Ok");
-    for table in [PROGRAMS, WRONG_TOKENS, KINDS, IMPORTS] {
-        try_table(&rt, rt.alloc(), table, Phase::Grammar)?;
-    }
+    let wrong = wrong_rows(rt.alloc(), PROGRAMS, Phase::Grammar)?;
+    assert!(rt; wrong.is_empty(), "{wrong}");
     Ok(())
 }
 
-/// The name of an import is what its string says, and its place that of the string.
+/// Texts at the limit of nesting.
+const NESTING: &str = r#"
+Ok | type A = «^ 200»Int
+P2 209..210 | type A = «^ 201»Int
+Ok | «[ 200»«] 200»;
+P2 200..201 | «[ 100000»
+P2 204..205 | run «( 100000»
+-- the value of a lambda stands in its abstraction, and a conditional behind it in both
+P2 1394..1395 | «\(x) =  300»x;
+P2 600..602 | «if  300»
+-- the wrong token stands before the deep one, and then at the deep one, and then behind it
+P1 4..5 | run 0 «( 300»
+P1 209..210 | type A = «^ 200»0
+P2 209..210 | type A = «^ 201»0
+"#;
+
 #[test]
-fn an_import_has_its_name_and_place(rt: HostRuntime) {
-    let Some(Ok(program)) = read(rt.alloc(), b"import \"L\" run ()") else {
-        panic!(rt; "a program");
-    };
-    let [import] = program.imports.as_slice() else {
-        panic!(rt; "one import");
-    };
-    assert!(rt; import.name.slice() == b"L".as_slice());
+fn nesting(rt: HostRuntime) -> Result<(), AllocError> {
+    let wrong = wrong_rows(rt.alloc(), NESTING, Phase::Grammar)?;
+    assert!(rt; wrong.is_empty(), "{wrong}");
+    Ok(())
+}
+
+/// Whether an import has this name, and its string this place.
+fn is_import(import: &Import, name: &[u8], start: u32, end: u32) -> bool {
     let wanted = Span {
         text: 1,
-        start: 7,
-        end: 10,
+        start,
+        end,
     };
-    assert_eq!(rt; import.span, wanted);
-    assert_eq!(rt; program.decs.len(), 1);
+    import.name.slice() == name && import.span == wanted
+}
+
+/// Whether this is the program of `import "L" run ()`.
+fn has_its_import(program: &Program) -> bool {
+    match program.imports.as_slice() {
+        [import] => is_import(import, b"L", 7, 10) && program.decs.len() == 1,
+        _ => false,
+    }
+}
+
+/// The name of an import is what its string says, and its place that of the string.
+fn is_import_read(alloc: Global) -> bool {
+    match read(alloc, b"import \"L\" run ()") {
+        Some(Ok(program)) => has_its_import(&program),
+        _ => false,
+    }
+}
+
+#[test]
+fn an_import_has_its_name_and_place(rt: HostRuntime) {
+    assert!(rt; is_import_read(rt.alloc()));
 }
 
 /// Where the phrase stands that a text of one declaration is there to show: the type of a `new`, the process of a `run`,
@@ -310,49 +339,29 @@ fn place_in(alloc: Global, word: &str, text: &[u8]) -> Result<String, AllocError
 }
 
 /// Tries a row `PHRASE PLACE | TEXT`.
-fn try_phrase(rt: &impl Abort, alloc: Global, row: &str) -> Result<(), AllocError> {
-    match row.split_once(" | ") {
-        None => panic!(rt; "no row: {row}"),
-        Some((wanted, text)) => match wanted.split_once(" ") {
-            None => panic!(rt; "no place: {row}"),
-            Some((word, place)) => {
-                let found = place_in(alloc, word, text.as_bytes())?;
-                assert!(rt; found.as_str() == place, "{row}: {found}");
-                Ok(())
-            }
-        },
+fn try_phrase(alloc: Global, row: &str, wrong: &mut String) -> Result<(), AllocError> {
+    let (wanted, text) = parts(row);
+    let (word, place) = wanted.split_once(" ").unwrap_or((wanted, ""));
+    let found = place_in(alloc, word, text.as_bytes())?;
+    compare(alloc, row, place, found.as_str(), wrong)
+}
+
+/// The rows of the table whose phrases stand elsewhere.
+fn wrong_phrases(alloc: Global) -> Result<String, AllocError> {
+    let mut wrong = String::new(alloc);
+    for row in PHRASES.lines() {
+        if is_row(row) {
+            try_phrase(alloc, row, &mut wrong)?;
+        }
     }
+    Ok(wrong)
 }
 
 #[test]
 fn phrases(rt: HostRuntime) -> Result<(), AllocError> {
-    for row in PHRASES.lines() {
-        if !row.is_empty() {
-            try_phrase(&rt, rt.alloc(), row)?;
-        }
-    }
+    let wrong = wrong_phrases(rt.alloc())?;
+    assert!(rt; wrong.is_empty(), "{wrong}");
     Ok(())
-}
-
-/// Texts at the limit of nesting.
-const NESTING: &str = r#"
-Ok | type A = «^ 200»Int
-P2 209..210 | type A = «^ 201»Int
-Ok | «[ 200»«] 200»;
-P2 200..201 | «[ 100000»
-P2 204..205 | run «( 100000»
--- the value of a lambda stands in its abstraction, and a conditional behind it in both
-P2 1394..1395 | «\(x) =  300»x;
-P2 600..602 | «if  300»
--- the wrong token stands before the deep one, and then at the deep one, and then behind it
-P1 4..5 | run 0 «( 300»
-P1 209..210 | type A = «^ 200»0
-P2 209..210 | type A = «^ 201»0
-"#;
-
-#[test]
-fn nesting(rt: HostRuntime) -> Result<(), AllocError> {
-    try_table(&rt, rt.alloc(), NESTING, Phase::Grammar)
 }
 
 /// Long lists: nothing recurses along them.
@@ -368,5 +377,7 @@ Ok | def f x=()«and f x=() 100000»
 
 #[test]
 fn long_lists(rt: HostRuntime) -> Result<(), AllocError> {
-    try_table(&rt, rt.alloc(), LONG_LISTS, Phase::Grammar)
+    let wrong = wrong_rows(rt.alloc(), LONG_LISTS, Phase::Grammar)?;
+    assert!(rt; wrong.is_empty(), "{wrong}");
+    Ok(())
 }

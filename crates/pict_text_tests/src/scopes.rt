@@ -1,12 +1,11 @@
 // Scopes of texts: what their uses mean, and where a rule of scopes fails first.
 
-use crate::answers::{Phase, try_table};
+use crate::answers::{Phase, compare, is_row, parts, wrong_rows};
 use pict_lex::lex;
 use pict_parse::parse;
 use pict_scope::{ScopeError, Scoped, Target, resolve};
 use pict_syntax::{Names, TEXT_LIMIT};
 use std::alloc::{AllocError, Global};
-use std::process::Abort;
 
 /// The scopes of a text; nothing where it is no program.
 fn scopes_of(alloc: Global, text: &[u8]) -> Option<Result<Scoped, ScopeError>> {
@@ -24,8 +23,9 @@ fn scopes_of(alloc: Global, text: &[u8]) -> Option<Result<Scoped, ScopeError>> {
     }
 }
 
-/// Values without a binder, in each place where a value or a head may stand.
-const UNBOUND_VALUES: &str = r#"
+/// Texts in which a rule of scopes fails, and texts that nest as deep as a text may.
+const SCOPES: &str = r#"
+-- Values without a binder, in each place where a value or a head may stand.
 S1 4..5 | run x!1
 S1 10..11 | run print!x
 S1 4..5 | run x?y = ()
@@ -39,10 +39,8 @@ S1 23..24 | run (new x:Int ()) run x!1
 S1 17..18 | def f x = () run x!1
 -- names of types are no names of values
 S1 13..14 | type X = Int X;
-"#;
 
-/// Types without a binder, in each place where a type may stand.
-const UNBOUND_TYPES: &str = r#"
+-- Types without a binder, in each place where a type may stand.
 S2 6..7 | new c:X
 S2 9..10 | new c:[a=X]
 S2 7..8 | new c:(F Int)
@@ -61,21 +59,17 @@ S2 9..10 | type X = X
 S2 10..11 | new c:[#X<X]
 -- names of values are no names of types
 S2 16..17 | new x:Int new c:x
-"#;
 
-/// Type binders end with what they stand in.
-const TYPES_BOUND_ELSEWHERE: &str = r#"
+-- Type binders end with what they stand in.
 S2 14..15 | new c:[[#X X] X]
 S2 19..20 | new c:[(rec X = X) X]
 S2 21..22 | type (F X) = X new c:X
 -- a type binder of a nested pattern, in a later field outside and in the type of the answer
 S2 16..17 | val [[#Y y:Y] z:Y] = 1
 S2 17..18 | def f ([#Y y:Y]):Y = 1
-"#;
 
-/// Names twice: in a pattern, its nested ones and its type binders, in a function's fields, in a `def`, among
-/// parameters, and in a record type.
-const NAMES_TWICE: &str = r#"
+-- Names twice: in a pattern, its nested ones and its type binders, in a function's fields, in a `def`, among parameters, and
+-- in a record type.
 S3 7..8 | val [x x] = 1
 S3 8..9 | val [x [x]] = 1
 S3 9..10 | val [#X #X] = 1
@@ -83,10 +77,8 @@ S3 9..10 | def f (x x) = 1
 S3 18..19 | def f [] = () and f [] = ()
 S3 10..11 | type (F X X) = Int
 S3 11..12 | new c:[#X #X]
-"#;
 
-/// Labels twice: in a record, a record pattern, a function's fields, a record type and an application.
-const LABELS_TWICE: &str = r#"
+-- Labels twice: in a record, a record pattern, a function's fields, a record type and an application.
 S4 5..6 | [a=1 a=2];
 S4 9..10 | val [a=x a=y] = 1
 S4 11..12 | def f (a=x a=y) = 1
@@ -96,20 +88,19 @@ S4 11..12 | (print a=1 a=2);
 S4 5..6 | [a=1 a=x];
 S1 3..4 | [a=x a=1];
 S2 7..8 | val [x:X x] = y
+
+-- Texts that nest as deep as a text may: values, types, patterns, groups and functions.
+Ok | val x = «[ 200»1«] 200»
+Ok | new c:«^ 200»Int
+Ok | val «[ 200»x«] 200» = 1 x;
+Ok | run «( 200»«) 200»
+Ok | val f = «\(x) =  199»x
 "#;
 
-/// Texts in which a rule of scopes fails.
 #[test]
-fn scopes_that_fail(rt: HostRuntime) -> Result<(), AllocError> {
-    for table in [
-        UNBOUND_VALUES,
-        UNBOUND_TYPES,
-        TYPES_BOUND_ELSEWHERE,
-        NAMES_TWICE,
-        LABELS_TWICE,
-    ] {
-        try_table(&rt, rt.alloc(), table, Phase::Scopes)?;
-    }
+fn rules_of_scopes_fail_where_these_say(rt: HostRuntime) -> Result<(), AllocError> {
+    let wrong = wrong_rows(rt.alloc(), SCOPES, Phase::Scopes)?;
+    assert!(rt; wrong.is_empty(), "{wrong}");
     Ok(())
 }
 
@@ -133,22 +124,11 @@ fn meaning(alloc: Global, text: &str) -> Result<String, AllocError> {
     Ok(meaning)
 }
 
-/// Tries rows `VALUES ; TYPES | TEXT`: what the text's uses of values mean, primitives or the places of binders, and the places
-/// of the binders that its uses of types mean. A line that begins with `--` says what the rows below it are for.
-fn try_meanings(rt: &impl Abort, alloc: Global, table: &str) -> Result<(), AllocError> {
-    for row in table.lines() {
-        if !row.is_empty() && !row.starts_with("--") {
-            let (wanted, text) = row.split_once(" | ").unwrap_or((row, ""));
-            let found = meaning(alloc, text)?;
-            assert!(rt; found.as_str() == wanted, "{row}: {found}");
-        }
-    }
-    Ok(())
-}
-
-/// Binders go by their places in reading order: of `def f x` and `g y` these are `f`, `x`, `g` and `y`. The first row is of a
-/// text of no bytes.
-const VALUES: &str = r#"
+/// Rows `VALUES ; TYPES | TEXT`: what the text's uses of values mean, primitives or the places of binders, and the places of the binders
+/// that its uses of types mean.
+const MEANINGS: &str = r#"
+-- Binders go by their places in reading order: of `def f x` and `g y` these are `f`, `x`, `g` and `y`. The first row is of a
+-- text of no bytes.
 ;
 Print ; | run print!"a"
 0 ; | new x:Int run x!1
@@ -165,15 +145,8 @@ Add 1 Printi 0 ; | val f = \(x:Int) = (+ x 1) run printi!(f 2)
 0 0 Add ; | new f:Int (f > 1 f); (+ < 1 2);
 -- labels are apart, and so are those of a record in a record
 0 1 ; | val [x a=y] = 1 [a=[a=x] x=y];
-"#;
 
-#[test]
-fn values(rt: HostRuntime) -> Result<(), AllocError> {
-    try_meanings(&rt, rt.alloc(), VALUES)
-}
-
-/// Type binders go by their places too: `X` is the first in `[#X<[#Y Y] X]`, though its bound comes before it binds.
-const TYPES: &str = r#"
+-- Type binders go by their places too: `X` is the first in `[#X<[#Y Y] X]`, though its bound comes before it binds.
 ; 0 1 | type X = Int type Y = X new c:Y
 ; 1 0 | type (F A) = A new c:(F Int)
 ; 0 | new c:(rec X = ^X)
@@ -189,21 +162,27 @@ Printi 2 ; 1 0 | type Y = Int def f [[#Y y:Y] z:Y] = printi!z
 0 ; 0 | val [#x x] = 1 new c:x x;
 "#;
 
-#[test]
-fn types(rt: HostRuntime) -> Result<(), AllocError> {
-    try_meanings(&rt, rt.alloc(), TYPES)
+/// The rows of the table whose uses mean something else.
+fn wrong_meanings(alloc: Global) -> Result<String, AllocError> {
+    let mut wrong = String::new(alloc);
+    for row in MEANINGS.lines() {
+        if is_row(row) {
+            let (wanted, text) = parts(row);
+            compare(
+                alloc,
+                row,
+                wanted,
+                meaning(alloc, text)?.as_str(),
+                &mut wrong,
+            )?;
+        }
+    }
+    Ok(wrong)
 }
 
-/// Texts that nest as deep as a text may: values, types, patterns, groups and functions.
-const DEEPEST: &str = r#"
-Ok | val x = «[ 200»1«] 200»
-Ok | new c:«^ 200»Int
-Ok | val «[ 200»x«] 200» = 1 x;
-Ok | run «( 200»«) 200»
-Ok | val f = «\(x) =  199»x
-"#;
-
 #[test]
-fn deepest(rt: HostRuntime) -> Result<(), AllocError> {
-    try_table(&rt, rt.alloc(), DEEPEST, Phase::Scopes)
+fn uses_have_these_meanings(rt: HostRuntime) -> Result<(), AllocError> {
+    let wrong = wrong_meanings(rt.alloc())?;
+    assert!(rt; wrong.is_empty(), "{wrong}");
+    Ok(())
 }

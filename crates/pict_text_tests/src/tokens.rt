@@ -1,11 +1,9 @@
 // Texts with the spans and kinds of their tokens, and texts that are refused.
 
-use crate::answers::{Phase, text_of, try_table};
+use crate::answers::{Phase, compare, is_row, parts, text_of, wrong_rows};
 use pict_lex::{LexError, lex};
-use pict_syntax::{Keyword, Name, Names, Sign, SymbolName, TokenKind};
+use pict_syntax::{Keyword, Name, Names, Sign, SymbolName, Token, TokenKind};
 use std::alloc::{AllocError, Global};
-use std::process::Abort;
-use std::test::Fail;
 
 /// Where reading stops.
 const REFUSALS: &str = r#"
@@ -35,7 +33,9 @@ L1 5..6 | "ok" $
 
 #[test]
 fn texts_are_refused_where_reading_stops(rt: HostRuntime) -> Result<(), AllocError> {
-    try_table(&rt, rt.alloc(), REFUSALS, Phase::Grammar)
+    let wrong = wrong_rows(rt.alloc(), REFUSALS, Phase::Grammar)?;
+    assert!(rt; wrong.is_empty(), "{wrong}");
+    Ok(())
 }
 
 /// The places of the tokens of a short text.
@@ -70,47 +70,80 @@ none |  «09»«0d»«0a»
 "#;
 
 /// Tries a row of the table.
-fn try_places(rt: &impl Abort, alloc: Global, row: &str) -> Result<(), LexError> {
-    let (wanted, text) = row.split_once(" | ").unwrap_or((row, ""));
+fn try_places(alloc: Global, row: &str, wrong: &mut String) -> Result<(), LexError> {
+    let (wanted, text) = parts(row);
     let found = places_of(alloc, &text_of(alloc, text)?)?;
-    assert!(rt;
-        found.strip_prefix(' ').unwrap_or("none") == wanted,
-        "{row}: {found}"
-    );
-    Ok(())
+    let found = found.strip_prefix(' ').unwrap_or("none");
+    Ok(compare(alloc, row, wanted, found, wrong)?)
+}
+
+/// The rows of the table whose tokens have other places.
+fn wrong_places(alloc: Global) -> Result<String, LexError> {
+    let mut wrong = String::new(alloc);
+    for row in PLACES.lines() {
+        if is_row(row) {
+            try_places(alloc, row, &mut wrong)?;
+        }
+    }
+    Ok(wrong)
 }
 
 #[test]
 fn the_longest_token_is_read(rt: HostRuntime) -> Result<(), LexError> {
-    for row in PLACES.lines() {
-        if !row.is_empty() {
-            try_places(&rt, rt.alloc(), row)?;
-        }
-    }
+    let wrong = wrong_places(rt.alloc())?;
+    assert!(rt; wrong.is_empty(), "{wrong}");
     Ok(())
 }
 
-#[test]
-fn tokens_have_their_kinds(rt: HostRuntime) -> Result<(), Fail> {
-    let mut names = Names::new(rt.alloc());
-    let text = b"if iffy + -> '\\'' \"a\\x7E\\n\" -1 iffy";
-    let tokens = lex(rt.alloc(), &mut names, text, 1)?;
-    match tokens.as_slice() {
-        [word, name, plus, arrow, quote, string, number, again] => {
-            assert!(rt; matches!(&word.kind, TokenKind::Keyword(Keyword::If)));
-            assert!(rt; matches!(&name.kind, TokenKind::Identifier(Name(0))));
-            assert!(rt; matches!(&plus.kind, TokenKind::Symbol(SymbolName::Plus, Name(1))));
-            assert!(rt; matches!(&arrow.kind, TokenKind::Sign(Sign::Arrow)));
-            assert!(rt; matches!(&quote.kind, TokenKind::Character(b'\'')));
-            match &string.kind {
-                TokenKind::String(bytes) => assert!(rt; bytes.slice() == b"a~\n".as_slice()),
-                _ => panic!(rt; "no string"),
-            }
-            assert!(rt; matches!(&number.kind, TokenKind::Number(-1)));
-            assert!(rt; matches!(&again.kind, TokenKind::Identifier(Name(0))));
-        }
-        _ => panic!(rt; "eight tokens"),
+/// Whether a token is a string of these bytes.
+fn is_string(token: &Token, wanted: &[u8]) -> bool {
+    match &token.kind {
+        TokenKind::String(bytes) => bytes.slice() == wanted,
+        _ => false,
     }
-    assert!(rt; names.text(Name(1)) == b"+".as_slice());
-    Ok(())
+}
+
+/// Whether these are the tokens of `if iffy + ->`.
+fn are_words(tokens: &[Token]) -> bool {
+    match tokens {
+        [word, name, plus, arrow] => {
+            matches!(&word.kind, TokenKind::Keyword(Keyword::If))
+                && matches!(&name.kind, TokenKind::Identifier(Name(0)))
+                && matches!(&plus.kind, TokenKind::Symbol(SymbolName::Plus, Name(1)))
+                && matches!(&arrow.kind, TokenKind::Sign(Sign::Arrow))
+        }
+        _ => false,
+    }
+}
+
+/// Whether these are the tokens of `'\'' "a\x7E\n" -1 iffy`.
+fn are_literals(tokens: &[Token]) -> bool {
+    match tokens {
+        [quote, string, number, again] => {
+            matches!(&quote.kind, TokenKind::Character(b'\''))
+                && is_string(string, b"a~\n")
+                && matches!(&number.kind, TokenKind::Number(-1))
+                && matches!(&again.kind, TokenKind::Identifier(Name(0)))
+        }
+        _ => false,
+    }
+}
+
+fn have_their_kinds(alloc: Global) -> bool {
+    let mut names = Names::new(alloc);
+    let text = b"if iffy + -> '\\'' \"a\\x7E\\n\" -1 iffy";
+    match lex(alloc, &mut names, text, 1) {
+        Ok(tokens) => match tokens.split_at_checked(4) {
+            Some((first, second)) => {
+                are_words(first) && are_literals(second) && names.text(Name(1)) == b"+".as_slice()
+            }
+            None => false,
+        },
+        Err(_) => false,
+    }
+}
+
+#[test]
+fn tokens_have_their_kinds(rt: HostRuntime) {
+    assert!(rt; have_their_kinds(rt.alloc()));
 }

@@ -1,11 +1,11 @@
 // What is told of wrong tokens: which could stand there, what is being read, and what may be meant.
 
+use crate::answers::{compare, is_row, parts};
 use pict_hints::explanation;
 use pict_lex::lex;
 use pict_parse::{ParseError, parse};
 use pict_syntax::{Code, Names, Span, TEXT_LIMIT};
 use std::alloc::{AllocError, Global};
-use std::process::Abort;
 use std::str::from_utf8;
 
 /// The place of the first wrong token of a text, or its end, where it is refused there.
@@ -43,25 +43,17 @@ fn told(alloc: Global, text: &[u8], beginning: &str) -> Result<String, AllocErro
     format!(in alloc; "nothing")
 }
 
-/// Tries rows `TOLD | TEXT`, in which TOLD stands on the line that begins so.
-fn try_told(
-    rt: &impl Abort,
-    alloc: Global,
-    table: &str,
-    beginning: &str,
-) -> Result<(), AllocError> {
+/// The rows `TOLD | TEXT` of a table where something else than TOLD stands on the line that begins so.
+fn wrong_rows(alloc: Global, table: &str, beginning: &str) -> Result<String, AllocError> {
+    let mut wrong = String::new(alloc);
     for row in table.lines() {
-        if !row.is_empty() && !row.starts_with("--") {
-            match row.split_once(" | ") {
-                None => panic!(rt; "no row: {row}"),
-                Some((wanted, text)) => {
-                    let found = told(alloc, text.as_bytes(), beginning)?;
-                    assert!(rt; found.as_str() == wanted, "{row}: {found}");
-                }
-            }
+        if is_row(row) {
+            let (wanted, text) = parts(row);
+            let found = told(alloc, text.as_bytes(), beginning)?;
+            compare(alloc, row, wanted, found.as_str(), &mut wrong)?;
         }
     }
-    Ok(())
+    Ok(wrong)
 }
 
 /// What could stand at the first wrong token.
@@ -108,7 +100,11 @@ nothing | type T = [#F:(* Type -> Type)]
 
 #[test]
 fn wrong_tokens(rt: HostRuntime) -> Result<(), AllocError> {
-    try_told(&rt, rt.alloc(), COULD_STAND, "  could stand here: ")?;
-    try_told(&rt, rt.alloc(), READING, "  this is read as part of ")?;
-    try_told(&rt, rt.alloc(), PERHAPS, "  perhaps: ")
+    let wrong = wrong_rows(rt.alloc(), COULD_STAND, "  could stand here: ")?;
+    assert!(rt; wrong.is_empty(), "{wrong}");
+    let wrong = wrong_rows(rt.alloc(), READING, "  this is read as part of ")?;
+    assert!(rt; wrong.is_empty(), "{wrong}");
+    let wrong = wrong_rows(rt.alloc(), PERHAPS, "  perhaps: ")?;
+    assert!(rt; wrong.is_empty(), "{wrong}");
+    Ok(())
 }

@@ -1,6 +1,6 @@
 use Rattle.pict_core.specs.Plain.{plain_core}
 use Rattle.pict_core.specs.Configuration.{opening}
-use Rattle.pict_tests.proofs.steps.machine_after.Goals as goal
+use Rattle.pict_tests.proofs.steps.run_text.Goals as goal
 
 pub run_counted-requires-clause-right : goal.run_counted-requires-clause-right
 run_counted-requires-clause-right c =
