@@ -1,9 +1,10 @@
 // The step of who has the turn.
-ghost use Rattle.std.specs.Prelude.{map};
+ghost use Rattle.std.specs.Prelude.{◌↔◌, map, IsTrue};
 ghost use Rattle.pict_code.specs.Plain.{plain_op, plain_node};
 ghost use Rattle.pict_turns.specs.Acting.{ActsBy};
 ghost use Rattle.pict_desk.specs.Code.{core_in};
 ghost use Rattle.pict_desk.specs.Constants.{IsConstantFor, AreConstants};
+ghost use Rattle.pict_acting.specs.Operands.{HasNoOperand, HasOneOperand};
 ghost use Rattle.pict_meetings.specs.PassedOver.{StepsOrPasses};
 ghost use Rattle.pict_turns.specs.Stepping.{MayAct, StepsBy};
 
@@ -64,6 +65,64 @@ pub fn act_or_pass<C>(
     }
 }
 
+// Whether the instruction is nothing, a parallel composition or a new channel.
+//
+// Instructions are told apart by this and the next first, so that each `match` behind them has few arms: the compiler makes comparisons
+// of them then, which a processor foresees better than a jump through a table. They are no `inline(always)`: compiled by itself
+// each is one comparison.
+#[inline]
+fn has_no_operand(op: &Op) -> bool
+    ensures { IsTrue result ↔ HasNoOperand (plain_op op.now) }
+{
+    match op {
+        Op::Zero | Op::Par(_, _) | Op::New(_, _) => true,
+        _ => false,
+    }
+}
+
+// Whether the instruction is an input or a conditional.
+#[inline]
+fn has_one_operand(op: &Op) -> bool
+    ensures { IsTrue result ↔ HasOneOperand (plain_op op.now) }
+{
+    match op {
+        Op::In(_, _, _) | Op::Serve(_, _, _) | Op::If(_, _, _) => true,
+        _ => false,
+    }
+}
+
+// The same as `act_by`, of an instruction without operands.
+#[inline(always)]
+fn act_alone(code: &[Node], store: &mut Store, op: &Op) -> Result<Shown, AllocError>
+    requires may { MayAct code.now store.old }
+    requires acts { ActsBy (core_in code.now) store.old (plain_op op.now) }
+    requires none { HasNoOperand (plain_op op.now) }
+    ensures steps { StepsBy code.now store.old store.new result }
+{
+    match op {
+        Op::Zero => end(store),
+        Op::Par(left, right) => fork(store, code, *left, *right),
+        Op::New(level, part) => make_channel(store, code, *level, *part),
+        _ => unreachable!(),
+    }
+}
+
+// The same as `act_by`, of an instruction with one operand.
+#[inline(always)]
+fn act_on_one(code: &[Node], store: &mut Store, op: &Op) -> Result<Shown, AllocError>
+    requires may { MayAct code.now store.old }
+    requires acts { ActsBy (core_in code.now) store.old (plain_op op.now) }
+    requires one { HasOneOperand (plain_op op.now) }
+    ensures steps { StepsBy code.now store.old store.new result }
+{
+    match op {
+        Op::If(test, yes, no) => choose(store, code, test, *yes, *no),
+        Op::In(chan, pattern, part) => input(code, store, chan, false, pattern, *part),
+        Op::Serve(chan, pattern, part) => input(code, store, chan, true, pattern, *part),
+        _ => unreachable!(),
+    }
+}
+
 // The same of a node with this instruction and this constant, whose levels have the values of its frame.
 fn act_by<C>(
     code: &[Node],
@@ -77,13 +136,16 @@ fn act_by<C>(
     requires constant { IsConstantFor store.old.desk.heap (plain_op op.now) constant.now }
     ensures steps { StepsOrPasses passes code.now store.old store.new result }
 {
-    match op {
-        Op::Zero => end(store),
-        Op::Par(left, right) => fork(store, code, *left, *right),
-        Op::New(level, part) => make_channel(store, code, *level, *part),
-        Op::If(test, yes, no) => choose(store, code, test, *yes, *no),
-        Op::Out(chan, message, at) => output(code, store, chan, message, constant, *at, passes),
-        Op::In(chan, pattern, part) => input(code, store, chan, false, pattern, *part),
-        Op::Serve(chan, pattern, part) => input(code, store, chan, true, pattern, *part),
+    if has_no_operand(op) {
+        act_alone(code, store, op)
+    } else if has_one_operand(op) {
+        act_on_one(code, store, op)
+    } else {
+        match op {
+            Op::Out(chan, message, at) => {
+                output(code, store, chan, message, constant, *at, passes)
+            }
+            _ => unreachable!(),
+        }
     }
 }

@@ -50,6 +50,9 @@ pub fn steps_at_once(
     ensures blocks { MakesFew (core_in code.now) 1 store.old.queues store.new.queues }
     ensures cost { CostsAtMost (half_cost (core_in code.now)) store.old.queues store.new.queues }
 {
+    if most < 3 {
+        return Ok(None);
+    }
     let opening = match opening_at_turn(code, &*store) {
         Some(opening) => opening,
         None => return Ok(None),
@@ -57,7 +60,7 @@ pub fn steps_at_once(
     match call_from(code, store, most, opening)? {
         Some(received) => Ok(Some(AtOnce::Call(received))),
         None => {
-            if wait_from(code, store, most, opening)? {
+            if wait_from(code, store, opening)? {
                 Ok(Some(AtOnce::Wait))
             } else {
                 Ok(None)

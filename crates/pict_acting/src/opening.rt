@@ -219,29 +219,25 @@ fn make_wait(code: &[Node], store: &mut Store, opening: Opening) -> Result<(), A
     Ok(())
 }
 
-// The three steps of a channel that who has the turn makes for two parts, of which the left one waits there, where so many steps may
-// be made. It answers whether it is so, and else nothing has changed.
+// The three steps of a channel that who has the turn makes for two parts, of which the left one waits there. It answers whether it is
+// so, and else nothing has changed.
 #[inline(always)]
 pub(crate) fn wait_from(
     code: &[Node],
     store: &mut Store,
-    most: u64,
     opening: Opening,
 ) -> Result<bool, AllocError>
     requires code { IsCode (map plain_node code.now) }
     requires store { IsStore (core_in code.now) store.old }
     requires begins { BeginsOpening (core_in code.now) store.old opening }
     requires few { length store.old.queues.queues < 2 ^ 32 }
-    ensures made { result ≡ Ok true → (3 ≤ most) × MakesWait (core_in code.now) store.old store.new }
+    ensures made { result ≡ Ok true → MakesWait (core_in code.now) store.old store.new }
     ensures none { result ≡ Ok false → store.new ≡ store.old }
-    ensures misses { result ≡ Ok false → 3 ≤ most → WaitsFor (core_in code.now) opening → ⊥ }
+    ensures misses { result ≡ Ok false → WaitsFor (core_in code.now) opening → ⊥ }
     ensures refused { OnErr result (OnlyReserves store.old store.new) }
     ensures blocks { MakesFew (core_in code.now) 1 store.old.queues store.new.queues }
     ensures cost { CostsAtMost (half_cost (core_in code.now)) store.old.queues store.new.queues }
 {
-    if most < 3 {
-        return Ok(false);
-    }
     if !waits_for(code, opening) {
         return Ok(false);
     }

@@ -6,7 +6,7 @@ use Rattle.pict_syntax.specs.declared.span.Span.{Span}
 use Rattle.pict_core.specs.Term.{Val, PrimitiveVal, Process, Out}
 use Rattle.pict_core.specs.Deed.{leaves, performs}
 use Rattle.pict_core.specs.Primitives.{Effect, Leaves, Nothing, Answer, Trap, effect_of}
-use Rattle.pict_core.specs.Step.{Label, Quiet, Print, printing}
+use Rattle.pict_core.specs.Step.{Label, Quiet, printing}
 use Rattle.pict_code.specs.Nodes.{nodes_of}
 use Rattle.pict_blocks.specs.Keeping.{kept_words}
 use Rattle.pict_heap.specs.HeapState.{value_of, KeepsWords}

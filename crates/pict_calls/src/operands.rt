@@ -24,7 +24,7 @@ use crate::finishing::finish;
 use pict_blocks::KEPT_WIDTH;
 use pict_code::Operand;
 use pict_core::CoreVal;
-use pict_desk::word_at_hand;
+use pict_desk::{is_small, word_at_hand};
 use pict_prim::{Act, Need};
 use pict_syntax::{Prim, Span};
 use pict_turns::{Shown, Store, reserve};
@@ -104,6 +104,9 @@ pub(crate) fn call_operand(
     ensures work { store.new.queues.region.work ≡ store.old.queues.region.work }
     ensures turn { (core : Process) → turn_cost core store.new ≤ turn_cost core store.old + 13 }
 {
+    if is_small(message) {
+        return call_simple(store, p, message, at);
+    }
     match message {
         CoreVal::Fields { positional, .. } => call_fields(store, p, positional, at),
         CoreVal::Text(bytes) => print_text(store, bytes.slice(), at),

@@ -1,7 +1,7 @@
 -- Operands whose words take nothing of a heap.
 use Rattle.std.specs.Prelude.{◌≡◌, ℕ, ℤ, List, Option, Some, None}
 use Rattle.pict_syntax.specs.declared.primitive.Primitive.{Primitive}
-use Rattle.pict_core.specs.Term.{Val, Chan, Int, Text, PrimitiveVal, Record}
+use Rattle.pict_core.specs.Term.{Val, Var, Chan, Int, Text, PrimitiveVal, Record}
 use Rattle.pict_heap.specs.HeapState.{HeapState, value_of, IsWord}
 use Rattle.pict_heap.specs.Packed.{FitsWord}
 use Rattle.pict_heap.specs.declared.word.Word.{Word}
@@ -24,6 +24,20 @@ abbrev pub IsOfHeap : Val → Type 0
 IsOfHeap (Text bytes) = Unit {0}
 IsOfHeap (Record vs ls) = Unit {0}
 IsOfHeap _ = ⊥
+
+-- a variable, a channel or a number
+abbrev pub IsCommon : Val → Type 0
+IsCommon (Var level) = Unit {0}
+IsCommon (Chan c) = Unit {0}
+IsCommon (Int n) = Unit {0}
+IsCommon _ = ⊥
+
+-- a variable, a channel, a number, a character or a truth value
+abbrev pub IsSmall : Val → Type 0
+IsSmall (Text bytes) = ⊥
+IsSmall (PrimitiveVal p) = ⊥
+IsSmall (Record vs ls) = ⊥
+IsSmall _ = Unit {0}
 
 -- the channel that a value is
 abbrev pub channel_named : Val → Option ℕ

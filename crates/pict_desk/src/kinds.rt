@@ -10,7 +10,7 @@ ghost use Rattle.pict_desk.specs.AtHand.{channel_named, number_named, StandsForP
 ghost use Rattle.pict_desk.specs.Pairs.{IsPair, ArePairs};
 
 use crate::desk::Desk;
-use crate::operands::word_at_hand;
+use crate::operands::{is_common, word_at_hand};
 use pict_code::Operand;
 use pict_core::CoreVal;
 use pict_heap::Word;
@@ -65,10 +65,14 @@ pub fn channel_at_hand(operand: &Operand, values: &[(u64, u64)]) -> Option<u32>
     ensures { (h : HeapState) → ArePairs h values.now
         → result ≡ channel_named (operand_value (known h values.now) (plain_val operand.now)) }
 {
-    match operand {
-        CoreVal::Var(level) => channel_of(values[*level as usize]),
-        CoreVal::Chan(number) => Some(*number),
-        _ => None,
+    if is_common(operand) {
+        match operand {
+            CoreVal::Var(level) => channel_of(values[*level as usize]),
+            CoreVal::Chan(number) => Some(*number),
+            _ => None,
+        }
+    } else {
+        None
     }
 }
 
@@ -81,10 +85,14 @@ pub fn number_at_hand(operand: &Operand, values: &[(u64, u64)]) -> Option<i64>
     ensures { (h : HeapState) → ArePairs h values.now
         → result ≡ number_named (operand_value (known h values.now) (plain_val operand.now)) }
 {
-    match operand {
-        CoreVal::Var(level) => number_of(values[*level as usize]),
-        CoreVal::Int(n) => Some(*n),
-        _ => None,
+    if is_common(operand) {
+        match operand {
+            CoreVal::Var(level) => number_of(values[*level as usize]),
+            CoreVal::Int(n) => Some(*n),
+            _ => None,
+        }
+    } else {
+        None
     }
 }
 

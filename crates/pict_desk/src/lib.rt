@@ -24,7 +24,7 @@ pub use kept::Kept;
 pub use kinds::{channel_at_hand, channel_of, chosen, is_true, number_at_hand, primitive_at_hand};
 pub use levels::level_count;
 pub use needs::{both, need, need_of_all};
-pub use operands::{pair_at_hand, pile_words, word_at, word_at_hand, word_of};
+pub use operands::{is_small, pair_at_hand, pile_words, word_at, word_at_hand, word_of};
 pub use pending::Pending;
 pub use records::{frame_record, read_record};
 pub use room::{frame_need, is_nothing, reserve_room};

@@ -1,5 +1,5 @@
 // Operands of instructions become words of a heap.
-ghost use Rattle.std.specs.Prelude.{◌≡◌, ◌+◌, ◌≤◌, ◌<◌, ◌^◌, ◌↔◌, eqb, map, length, take, drop, All, IfSome, IsNone};
+ghost use Rattle.std.specs.Prelude.{◌≡◌, ◌+◌, ◌≤◌, ◌<◌, ◌^◌, ◌↔◌, eqb, map, length, take, drop, All, IfSome, IsNone, IsTrue};
 ghost use Rattle.std.specs.List.{IsDistinct};
 ghost use Rattle.std.specs.Vec.{vec_capacity};
 ghost use Rattle.pict_core.specs.Closed.{IsOver, AreOver, LabelledOver};
@@ -9,7 +9,7 @@ ghost use Rattle.pict_heap.specs.Packed.{packed, FitsWord};
 ghost use Rattle.pict_heap.specs.declared.word.Word.{Word as AnyWord};
 ghost use Rattle.pict_prim.specs.Acts.{UsesNeed};
 ghost use Rattle.pict_desk.specs.Known.{known, operand_value};
-ghost use Rattle.pict_desk.specs.AtHand.{IsWordFor, IsPairFor, IsOfHeap};
+ghost use Rattle.pict_desk.specs.AtHand.{IsWordFor, IsPairFor, IsCommon, IsSmall, IsOfHeap};
 ghost use Rattle.pict_desk.specs.Pairs.{ArePairs};
 ghost use Rattle.pict_desk.specs.Needs.{need_of, needs_of, needs_of_labelled, fields_need, both_needs, HasRoomFor, IsMade, KeepsPending, PilesWords, PilesLabelled};
 
@@ -18,6 +18,32 @@ use pict_code::Operand;
 use pict_core::CoreVal;
 use pict_heap::{Heap, Word, pack, unpack};
 use pict_syntax::Name;
+
+/// Whether the operand is a variable, a channel or a number, as most are.
+///
+/// Operands are told apart by this and the next first, so that each `match` behind them has few arms: the compiler makes comparisons of
+/// them then, which a processor foresees better than a jump through a table. They are no `inline(always)`: compiled by itself
+/// each is one comparison.
+#[inline]
+pub(crate) fn is_common(operand: &Operand) -> bool
+    ensures { IsTrue result ↔ IsCommon (plain_val operand.now) }
+{
+    match operand {
+        CoreVal::Var(_) | CoreVal::Chan(_) | CoreVal::Int(_) => true,
+        _ => false,
+    }
+}
+
+/// Whether the operand is a variable, a channel, a number, a character or a truth value.
+#[inline]
+pub fn is_small(operand: &Operand) -> bool
+    ensures { IsTrue result ↔ IsSmall (plain_val operand.now) }
+{
+    match operand {
+        CoreVal::Text(_) | CoreVal::Prim(_) | CoreVal::Fields { .. } => false,
+        _ => true,
+    }
+}
 
 /// The word that is packed to this pair. Takes no memory.
 #[inline(always)]
@@ -59,14 +85,24 @@ pub fn pair_at_hand(operand: &Operand, values: &[(u64, u64)]) -> Option<(u64, u6
     ensures pair { (h : HeapState) → ArePairs h values.now → IfSome result (IsPairFor h (operand_value (known h values.now) (plain_val operand.now))) }
     ensures none { IsNone result ↔ IsOfHeap (plain_val operand.now) }
 {
-    let constant = match operand {
-        CoreVal::Var(level) => return Some(values[*level as usize]),
-        CoreVal::Chan(number) => Word::Chan(*number),
-        CoreVal::Int(n) => Word::Int(*n),
-        CoreVal::Char(byte) => Word::Char(*byte),
-        CoreVal::Bool(b) => Word::Bool(*b),
-        CoreVal::Prim(p) => Word::Prim(*p),
-        _ => return None,
+    let constant = if is_common(operand) {
+        match operand {
+            CoreVal::Var(level) => return Some(values[*level as usize]),
+            CoreVal::Chan(number) => Word::Chan(*number),
+            CoreVal::Int(n) => Word::Int(*n),
+            _ => unreachable!(),
+        }
+    } else if is_small(operand) {
+        match operand {
+            CoreVal::Char(byte) => Word::Char(*byte),
+            CoreVal::Bool(b) => Word::Bool(*b),
+            _ => unreachable!(),
+        }
+    } else {
+        match operand {
+            CoreVal::Prim(p) => Word::Prim(*p),
+            _ => return None,
+        }
     };
     Some(pack(constant))
 }

@@ -23,3 +23,29 @@ two_effect p v w k = effect_of p (Record (more_vals v (more_vals w (more_vals k 
 -- the effect on two numbers
 abbrev pub int_effect : Primitive → ℤ → ℤ → Val → Option Effect
 int_effect p a b k = two_effect p (Int a) (Int b) k
+
+-- `+` and `-`
+abbrev pub IsSum : Primitive → Type 0
+IsSum primitive.Add = Unit {0}
+IsSum primitive.Subtract = Unit {0}
+IsSum _ = ⊥
+
+-- `*`, `div` and `mod`
+abbrev pub IsProduct : Primitive → Type 0
+IsProduct primitive.Multiply = Unit {0}
+IsProduct primitive.Divide = Unit {0}
+IsProduct primitive.Remainder = Unit {0}
+IsProduct _ = ⊥
+
+-- `>>` and `>=`
+abbrev pub IsGreater : Primitive → Type 0
+IsGreater primitive.Greater = Unit {0}
+IsGreater primitive.AtLeast = Unit {0}
+IsGreater _ = ⊥
+
+-- the comparisons of two numbers
+abbrev pub IsComparison : Primitive → Type 0
+IsComparison primitive.Equal = Unit {0}
+IsComparison primitive.Less = Unit {0}
+IsComparison primitive.AtMost = Unit {0}
+IsComparison p = IsGreater p

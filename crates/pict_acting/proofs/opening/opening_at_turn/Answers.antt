@@ -1,6 +1,5 @@
 use Rattle.std.proofs.Common.{ℕ, ◌≡◌, subst}
 use Rattle.pict_desk.specs.Code.{core_in}
-use Rattle.pict_turns.specs.declared.turn.Turn.{Turn}
 use Rattle.pict_turns.specs.declared.turn.Turn.TheVariants.{Node as NodeTurn}
 use Rattle.pict_acting.specs.Opening.{OpensFor}
 use Rattle.pict_acting.proofs.opening.opening_at_turn.Goals as goal

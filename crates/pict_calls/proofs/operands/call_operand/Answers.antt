@@ -46,6 +46,10 @@ returns-in-Text-clause-adds c e effect =
     subst (λ (n : Need). AddsAtMost s c.print_text.new.store (both_needs n (answer_need e))) (sym need)
     (used_with s.desk.heap.room c.print_text.new.store.desk.heap.room _ _ c.print_text.ensures.adds)
 
+pub returns-then-is_small-clause-adds : goal.returns-then-is_small-clause-adds
+returns-then-is_small-clause-adds c e effect =
+    used_beside c.args.store.now.desk.heap.room c.call_simple.new.store.desk.heap.room _ _ (c.call_simple.ensures.adds e effect)
+
 pub returns-in_default-clause-adds : goal.returns-in_default-clause-adds
 returns-in_default-clause-adds c e effect =
-    used_beside c.args.store.now.desk.heap.room c.call_simple.new.store.desk.heap.room _ _ (c.call_simple.ensures.adds e effect)
+    used_beside c.args.store.now.desk.heap.room c.call_simple-in_default.new.store.desk.heap.room _ _ (c.call_simple-in_default.ensures.adds e effect)
