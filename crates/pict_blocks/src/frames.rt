@@ -1,11 +1,7 @@
 // Frames in blocks.
-ghost use Rattle.std.specs.Prelude.{◌≡◌, ◌<◌, ◌≤◌, ◌+◌, ◌*◌, ◌^◌, ℕ, All, length, drop, slice_set, slice_index, eqb, false};
-ghost use Rattle.std.specs.List.{list_any};
-ghost use Rattle.pict_syntax.specs.declared.limits.TheConstants.{NARROW_LIMIT};
+ghost use Rattle.std.specs.Prelude.{◌≡◌, ◌<◌, ◌+◌, ◌^◌, slice_set, slice_index};
 ghost use Rattle.pict_region.specs.RegionState.{words_of, width_of};
 ghost use Rattle.pict_queue.specs.QueuesState.{IsHeld, CostsAtMost};
-ghost use Rattle.pict_desk.specs.Known.{pair_at};
-ghost use Rattle.pict_blocks.specs.Framed.{gathered, AreRising};
 ghost use Rattle.pict_blocks.specs.Writing.{OnlyWrites, OnlyWorks};
 
 use pict_queue::Queues;

@@ -1,5 +1,5 @@
 // A node of the code, with values for its frame, becomes a block.
-ghost use Rattle.std.specs.Prelude.{◌≡◌, ◌≢◌, ◌<◌, ◌≤◌, ◌+◌, ◌*◌, ◌^◌, ◌++◌, ◌∷◌, [], ℕ, All, length};
+ghost use Rattle.std.specs.Prelude.{◌≡◌, ◌<◌, ◌≤◌, ◌+◌, ◌*◌, ◌^◌, ◌++◌, ◌∷◌, [], All, length};
 ghost use Rattle.pict_syntax.specs.declared.limits.TheConstants.{NARROW_LIMIT};
 ghost use Rattle.pict_region.specs.RegionState.{spare, KeepsBlocks, KeepsOtherWidths};
 ghost use Rattle.pict_queue.specs.QueuesState.{IsQueue, CostsAtMost};

@@ -1,5 +1,5 @@
 // What patterns of instructions bind, as words of levels.
-ghost use Rattle.std.specs.Prelude.{◌≡◌, ◌<◌, ◌^◌, length, map, IsSome};
+ghost use Rattle.std.specs.Prelude.{◌≡◌, ◌<◌, length, map, IsSome};
 ghost use Rattle.std.specs.List.{AllByRecursion};
 ghost use Rattle.pict_code.specs.Levels.{Rises};
 ghost use Rattle.pict_code.specs.Plain.{plain_pat, plain_pat_field, pats_of, labelled_pats_of};

@@ -1,5 +1,5 @@
 // Replay files of values that no text nests so deep, and lines of choices. What is said of other files stands in the tables of calls.
-ghost use Rattle.std.specs.Prelude.{ℕ, ◌+◌, IfOk};
+ghost use Rattle.std.specs.Prelude.{ℕ, IfOk};
 ghost use Rattle.pict_core.specs.Closed.{IsOver};
 ghost use Rattle.pict_core.specs.Plain.{plain_core, plain_val};
 ghost use Rattle.pict_machine_tests.specs.Gentle.{IsGentleOver};

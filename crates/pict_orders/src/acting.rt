@@ -3,7 +3,7 @@
 ghost use Rattle.std.specs.Prelude.{◌≡◌, ◌+◌, ◌<◌, ◌^◌, [], ◌∷◌, IfOk, OnOk, option_map};
 ghost use Rattle.pict_syntax.specs.declared.span.Span.{Span as PlainSpan};
 ghost use Rattle.pict_core.specs.Plain.{plain_core, plain_val, plain_pat, core_of};
-ghost use Rattle.pict_core.specs.Term.{Val, Chan, Out, In};
+ghost use Rattle.pict_core.specs.Term.{Chan, Out, In};
 ghost use Rattle.pict_core.specs.Primitives.{effect_of};
 ghost use Rattle.pict_core.specs.Substitution.{substitute as substitute_plain};
 ghost use Rattle.pict_core.specs.Matching.{match_value};

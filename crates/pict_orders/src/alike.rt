@@ -1,6 +1,6 @@
 // Whether two configurations differ in the names of channels and in the order of their processes alone.
 
-ghost use Rattle.std.specs.Prelude.{◌≡◌, IsTrue, IfOk};
+ghost use Rattle.std.specs.Prelude.{IsTrue, IfOk};
 ghost use Rattle.pict_reduction.specs.Congruence.{Congruent};
 ghost use Rattle.pict_reduction.specs.Reading.{reading};
 ghost use Rattle.pict_orders.specs.Plain.{configuration_of};

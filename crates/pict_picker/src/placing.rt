@@ -2,12 +2,11 @@
 ghost use Rattle.std.specs.Prelude.{◌≡◌, ◌<◌, ◌≤◌, ◌+◌, ◌++◌, ◌∷◌, [], ℕ, length, slice_get, slice_set, Some, OnOk};
 ghost use Rattle.pict_syntax.specs.declared.span.Span.{Span as AnySpan};
 ghost use Rattle.pict_core.specs.Term.{Process};
-ghost use Rattle.pict_heap.specs.HeapState.{HeapState, value_of};
+ghost use Rattle.pict_heap.specs.HeapState.{HeapState};
 ghost use Rattle.pict_view.specs.Moved.{if_replicated};
 ghost use Rattle.pict_view.specs.Placed.{without};
-ghost use Rattle.pict_desk.specs.Pairs.{IsPair};
 ghost use Rattle.pict_picker.specs.Deeds.{label_printed, IsPrintedOrNone};
-ghost use Rattle.pict_picker.specs.Events.{label_of, trap_of, IsDidOf};
+ghost use Rattle.pict_picker.specs.Events.{label_of, IsDidOf};
 ghost use Rattle.pict_picker.specs.Lists.{items_at, room_at, SameItems, grows_at, HasRoomIn, left_ready, MayPlace, IsDeedPlaced};
 ghost use Rattle.pict_picker.specs.Picker.{channel_items};
 ghost use Rattle.pict_picker.specs.declared.waiting.Waiting.{Waiting as AnyWaiting};

@@ -17,8 +17,9 @@ pub(crate) struct Queue {
     pub(crate) length: u32,
 }
 
-/// The ends and the length of each queue, by its number. The ends of a queue are told together with a token of a block of it, and
-/// no other way: so whoever looks at them adds one to the work of the region.
+/// The ends and the length of each queue, by its number. The ends of a queue are told together with a token of one of them, or where
+/// it is empty of the block that becomes both, and no other way: so whoever looks at them raises the work of the region, which rises by
+/// one for a token until it is the greatest number.
 #[derive(Drop)]
 pub(crate) struct Ends {
     queues: Vec<Queue>,

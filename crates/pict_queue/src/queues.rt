@@ -6,7 +6,7 @@ ghost use Rattle.std.specs.List.{list_any};
 ghost use Rattle.pict_region.specs.RegionState.{IsLive, words_of, width_of, spare, blocks, KeepsBlocks, LosesNoBlock, KeepsOtherWidths, raised, raised_by, GainsWords};
 ghost use Rattle.pict_region.specs.Values.{gathered, pair_at, AreRising};
 ghost use Rattle.pict_queue.specs.Contents.{held_words, contents, first_words, moved_contents, KeepsAllContents, KeepsOtherContents, KeepsHeld, KeepsOtherHeld, HoldsNoMore, HoldsOneMore, Releases};
-ghost use Rattle.pict_queue.specs.QueuesState.{IsQueue, IsHeld, HasEachBlockOnce, queue_blocks, no_queue, link_of, moved_list, KeepsOtherQueues, KeepsQueues, KeepsRest, CostsAtMost};
+ghost use Rattle.pict_queue.specs.QueuesState.{IsQueue, IsHeld, HasEachBlockOnce, queue_blocks, no_queue, moved_list, KeepsOtherQueues, KeepsQueues, KeepsRest, CostsAtMost};
 
 use crate::ends::{Ends, Queue};
 use pict_region::{Block, Region};

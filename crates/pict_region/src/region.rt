@@ -1,5 +1,5 @@
 // The region: its store of words, its lists of free blocks, and its work.
-ghost use Rattle.std.specs.Prelude.{◌≡◌, ◌≢◌, ◌+◌, ◌-◌, ◌^◌, ◌<◌, ◌≤◌, ◌==◌, ◌*◌, if◌then◌else◌, ℕ, [], length, max, min, None, All, eqb, false, OnOk, OnErr, IsOk, IsSome, IfSome, unwrap_or, slice_index, slice_set, slice_index_or, replicate, take, drop, ◌++◌, ◌∷◌, vec_len};
+ghost use Rattle.std.specs.Prelude.{◌≡◌, ◌+◌, ◌-◌, ◌^◌, ◌<◌, ◌≤◌, ◌==◌, ◌*◌, if◌then◌else◌, ℕ, [], length, max, min, None, All, eqb, false, OnOk, OnErr, IsOk, IfSome, unwrap_or, slice_index, slice_set, replicate, take, drop, ◌++◌, ◌∷◌, vec_len};
 ghost use Rattle.std.specs.FinMap.{get, insert, remove, empty};
 ghost use Rattle.std.specs.List.{list_any};
 ghost use Rattle.pict_region.specs.RegionState.{IsLive, words_of, width_of, spare, blocks, KeepsBlocks, LosesNoBlock, KeepsOtherWidths, raised, raised_by, GainsWords, GainsLinked};

@@ -1,6 +1,6 @@
 // Lines of choices, read.
 
-ghost use Rattle.std.specs.Prelude.{ℕ, List, ◌≡◌, ◌≢◌, ◌<◌, ◌^◌, ◌∷◌, ◌++◌, map, IfOk, IfSome, None, Err};
+ghost use Rattle.std.specs.Prelude.{ℕ, ◌≡◌, ◌<◌, ◌^◌, ◌++◌, map, IfOk, IfSome, None, Err};
 ghost use Rattle.std.specs.Fmt.{decimal};
 ghost use Rattle.pict_replay.specs.Files.{choice_text, BeginsWithChoice, BeginsWithChoices, IsChoices, IsFirstBadChoice};
 ghost use Rattle.pict_replay.specs.Plain.{place_of};

@@ -1,5 +1,5 @@
 // One choice of a replay: its step, and whether it shows what the lines give.
-ghost use Rattle.std.specs.Prelude.{◌≡◌, ◌≤◌, ◌<◌, ◌+◌, ◌^◌, ◌↔◌, ◌∷◌, [], ℕ, IsTrue, IfOk, IfSome, Ok, None, true, false, map, length, drop};
+ghost use Rattle.std.specs.Prelude.{◌≡◌, ◌≤◌, ◌<◌, ◌+◌, ◌^◌, ◌↔◌, ◌∷◌, [], IsTrue, IfOk, IfSome, Ok, None, true, false, map, length, drop};
 ghost use Rattle.pict_core.specs.Configuration.{Configuration, IsConfiguration};
 ghost use Rattle.pict_core.specs.Places.{IsPlace};
 ghost use Rattle.pict_core.specs.Run.{shown};
@@ -7,7 +7,7 @@ ghost use Rattle.pict_core.specs.Step as step;
 ghost use Rattle.pict_heap.specs.HeapState.{HeapState};
 ghost use Rattle.pict_trace.specs.Plain.{plain_label, plain_line};
 ghost use Rattle.pict_view.specs.View.{StandsFor};
-ghost use Rattle.pict_picker.specs.Events.{label_of, trap_of, IsDidOf};
+ghost use Rattle.pict_picker.specs.Events.{label_of, IsDidOf};
 ghost use Rattle.pict_picker.specs.Picker.{IsPicker, view_of, channels_of};
 ghost use Rattle.pict_replay.specs.Plain.{place_of};
 ghost use Rattle.pict_replay.specs.Replayed.{given, unused_after};

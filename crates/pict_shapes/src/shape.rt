@@ -6,7 +6,7 @@ ghost use Rattle.pict_core.specs.Primitives.{effect_of};
 ghost use Rattle.pict_core.specs.Term.{Labelled, Record};
 ghost use Rattle.pict_desk.specs.Arguments.{operand_in};
 ghost use Rattle.pict_desk.specs.Pairs.{ArePairs};
-ghost use Rattle.pict_heap.specs.HeapState.{HeapState, value_of, IsWord};
+ghost use Rattle.pict_heap.specs.HeapState.{value_of, IsWord};
 ghost use Rattle.pict_core.specs.Plain.{vals_of};
 ghost use Rattle.pict_shapes.specs.Fitting.{values_in};
 ghost use Rattle.pict_shapes.specs.Shapes.{is_kind, has_operands, is_effect};

@@ -1,5 +1,5 @@
 // One event after another, as a seed chooses them.
-ghost use Rattle.std.specs.Prelude.{◌≡◌, ◌≢◌, ◌≤◌, ◌<◌, ◌+◌, ◌^◌, IfOk, IfSome, OnErr};
+ghost use Rattle.std.specs.Prelude.{◌≢◌, ◌≤◌, ◌<◌, ◌+◌, ◌^◌, IfOk, IfSome, OnErr};
 ghost use Rattle.pict_heap.specs.HeapState.{KeepsWords};
 ghost use Rattle.pict_network.specs.Network as plain;
 ghost use Rattle.pict_network.specs.Events as events;

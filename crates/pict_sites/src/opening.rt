@@ -1,7 +1,7 @@
 // A channel is opened: each site gets a queue for it.
 ghost use Rattle.std.specs.Prelude.{◌≡◌, ◌≤◌, ℕ, length, Some, slice_get, OnOk};
 ghost use Rattle.pict_queue.specs.QueuesState.{QueuesState};
-ghost use Rattle.pict_sites.specs.Passing.{HoldsTheSame, GainsQueue};
+ghost use Rattle.pict_sites.specs.Passing.{GainsQueue};
 
 use pict_queue::Queues;
 use std::alloc::AllocError;

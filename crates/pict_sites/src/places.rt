@@ -1,7 +1,7 @@
 // The events that are possible, by their places.
-ghost use Rattle.std.specs.Prelude.{◌≡◌, ◌≢◌, ◌<◌, ◌↔◌, ℕ, [], Some, length, slice_get, IsTrue};
+ghost use Rattle.std.specs.Prelude.{◌≡◌, ◌≢◌, ◌<◌, ◌↔◌, [], Some, length, slice_get, IsTrue};
 ghost use Rattle.pict_core.specs.Term.{Process};
-ghost use Rattle.pict_queue.specs.QueuesState.{QueuesState, IsQueue};
+ghost use Rattle.pict_queue.specs.QueuesState.{IsQueue};
 ghost use Rattle.pict_queue.specs.Contents.{contents};
 ghost use Rattle.pict_network.specs.Network as plain;
 ghost use Rattle.pict_network.specs.Events as events;

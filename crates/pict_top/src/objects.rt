@@ -11,7 +11,6 @@ ghost use Rattle.pict_gather.specs.Fetching.{text, MayGive};
 ghost use Rattle.pict_object.specs.Cores.{IsObjectCore};
 ghost use Rattle.pict_view.specs.Watching.{BrokeOff, Saw, SawOrTore};
 ghost use Rattle.pict_exec.specs.Ends.{Anywhere, Executed, end_of};
-ghost use Rattle.pict_exec.specs.declared.guarded.ExecEnd.{ExecEnd as AnyEnd};
 ghost use Rattle.pict_report.specs.Reports.{AreShort};
 ghost use Rattle.pict_top.specs.Changes.{change_of, FailedWithin, GainedFront};
 ghost use Rattle.pict_top.specs.Guarded.{RanTo, RanSomehow};

@@ -1,5 +1,5 @@
 // What a run writes on the output.
-ghost use Rattle.std.specs.Prelude.{◌≡◌, ◌≢◌, ◌≤◌, OnOk, OnErr, Err};
+ghost use Rattle.std.specs.Prelude.{◌≡◌, ◌≤◌, OnOk, OnErr, Err};
 ghost use Rattle.std.specs.Io.KnownBytes.{Appends};
 ghost use Rattle.pict_outside.specs.Counts.{Rose};
 ghost use Rattle.pict_outside.specs.Bytes.{AppendsFront};

@@ -1,6 +1,6 @@
 // Values read from texts.
 
-ghost use Rattle.std.specs.Prelude.{ℕ, List, ◌≡◌, ◌+◌, ◌<◌, ◌≤◌, ◌^◌, ◌∷◌, [], length, map, IfOk, Err};
+ghost use Rattle.std.specs.Prelude.{ℕ, List, ◌≡◌, ◌+◌, ◌<◌, ◌^◌, [], length, map, IfOk, Err};
 ghost use Rattle.pict_syntax.specs.Names.{with_names};
 ghost use Rattle.pict_core.specs.Plain.{plain_val, plain_field, labelled_of};
 ghost use Rattle.pict_core.specs.Term.{Record};

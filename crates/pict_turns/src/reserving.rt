@@ -1,7 +1,7 @@
 // Room for what a step is about to make.
-ghost use Rattle.std.specs.Prelude.{◌≡◌, ◌≤◌, ◌<◌, ◌+◌, ◌-◌, ◌*◌, ◌==◌, ◌∷◌, ℕ, [], length, OnOk, IsOk, if◌then◌else◌};
+ghost use Rattle.std.specs.Prelude.{◌≡◌, ◌≤◌, ◌<◌, ◌+◌, ◌-◌, ◌==◌, ◌∷◌, ℕ, [], length, OnOk, IsOk, if◌then◌else◌};
 ghost use Rattle.pict_region.specs.RegionState.{spare, blocks, LosesNoBlock};
-ghost use Rattle.pict_desk.specs.Needs.{no_need, both_needs, HasRoomFor};
+ghost use Rattle.pict_desk.specs.Needs.{no_need, HasRoomFor};
 ghost use Rattle.pict_desk.specs.Room.{frame_need};
 ghost use Rattle.pict_blocks.specs.Parts.{block_width};
 ghost use Rattle.pict_turns.specs.Reserving.{CanHoldAnd, CanHoldBoth, OnlyReserves};

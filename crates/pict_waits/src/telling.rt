@@ -1,6 +1,6 @@
 // What is told of those who wait.
 
-ghost use Rattle.std.specs.Prelude.{◌≡◌, IfOk};
+ghost use Rattle.std.specs.Prelude.{IfOk};
 ghost use Rattle.pict_report.specs.Reports.{AreShort};
 ghost use Rattle.pict_reference.specs.Plain.{configuration_of};
 ghost use Rattle.pict_waits.specs.Ending.{Tells, TellsEnd};

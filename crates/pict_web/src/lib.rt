@@ -10,7 +10,7 @@ mod steps;
 #[cfg(test)]
 mod tests;
 
-ghost use Rattle.std.specs.Prelude.{◌≡◌, ◌≤◌, Some, IfOk, length, take, drop};
+ghost use Rattle.std.specs.Prelude.{◌≡◌, ◌≤◌, IfOk, length, take, drop};
 ghost use Rattle.std.specs.Fmt.{decimal};
 ghost use Rattle.pict_outside.specs.Entries.{pairs_of};
 ghost use Rattle.pict_outside.specs.Texts.{texts_of as held_texts};
